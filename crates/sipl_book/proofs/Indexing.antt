@@ -3,7 +3,7 @@ use Rattle.std.proofs.Common.{◌≡◌, ◌≢◌, ℕ, ◌<◌, ◌≤◌, Boo
 use Rattle.std.specs.List.{All, AllPairs, IsDistinct, list_any}
 use Rattle.std.specs.Cmp.{nat_eq_equiv}
 use Rattle.std.proofs.Math.ListN.{length-map}
-use Rattle.std.proofs.lemmas.Bool.{cond-true, cond-false, cond_both, eq-eqb, or_left, or_right, or_cases, and_parts, and_from}
+use Rattle.std.proofs.lemmas.Bool.{cases_Bool, cond-true, cond-false, cond_both, eq-eqb, or_left, or_right, or_cases, and_parts, and_from}
 use Rattle.std.proofs.lemmas.List.Elements.{All-head, All-tail}
 use Rattle.std.proofs.lemmas.Map.Made.{length-le_from_is_member}
 use Rattle.std.proofs.lemmas.Map.Views.{exact_unsigned_eq}
@@ -18,7 +18,7 @@ use Rattle.sipl_evidence.specs.Dependents.{Dependent, code_of_key, depends, has_
 use Rattle.sipl_records.proofs.Public.{same_key-Decides}
 use Rattle.sipl_book.specs.Cache.{InOrder}
 use Rattle.sipl_book.specs.Entries.{EntryState, is_of, entry_of, renewed, after_change, depends_on}
-use Rattle.sipl_book.specs.Indexed.{IsIndexOf, has, needs, needs_code, touched}
+use Rattle.sipl_book.specs.Indexed.{HasKeysOf, IsIndexOf, has, is_kept, linked_code, needs, touched}
 use Rattle.sipl_book.specs.Repairs.{entry_with, without}
 use Rattle.sipl_book.proofs.Caches.{own_ids}
 use Rattle.sipl_book.proofs.Committed.{current, is_of_decides, renewed_cases, id-renewed, All-entry_of, question-entry_of}
@@ -126,25 +126,113 @@ touched-same id key (e ∷ es) order none =
 
 -- ---- the index
 
-pub IsIndexOf-touched : (id : ℕ) (key : Key) (es : List EntryState) (pairs new : List Dependent) → IsIndexOf es pairs → has (needs key) es id ≡ true
-    → ((code other : ℕ) → depends new code other ≡ (not (eqb id other) && depends pairs code other)) → IsIndexOf (map (touched id key) es) new
-IsIndexOf-touched id key es pairs new so is clause =
+pub IsIndexOf-nil : IsIndexOf [] None []
+IsIndexOf-nil =
     record {
+      linked = λ _. false;
+      same = λ code id. refl;
+      current = λ id is. absurd (true≢false (sym is));
+      outdated = λ id is. absurd (none-some id is);
+    }
+
+-- no outdated entry keeps its pairs
+pub no_one_kept : (es : List EntryState) (kept : Option ℕ) (pairs : List Dependent) → IsIndexOf es kept pairs → IsIndexOf es None pairs
+no_one_kept es kept pairs so =
+    record { linked = so.linked; same = so.same; current = so.current; outdated = λ k is. absurd (none-some k is) }
+
+-- or not that with this id
+pub IsIndexOf-cleared : (es : List EntryState) (kept : Option ℕ) (pairs : List Dependent) (id : ℕ) → IsIndexOf es kept pairs
+    → IsIndexOf es (cond (is_kept kept id) None kept) pairs
+IsIndexOf-cleared es kept pairs id so =
+    elim (is_kept kept id) as (λ b. IsIndexOf es (cond b None kept) pairs) [
+      | true ↦ no_one_kept es kept pairs so
+      | false ↦ so
+    ]
+
+pub not_kept : (kept : Option ℕ) (id : ℕ) → cond (is_kept kept id) None kept ≡ Some id → ⊥
+not_kept None id is = none-some id is
+not_kept (Some own) id is = by (eqb own id) refl is
+  where
+    by : (b : Bool) → eqb own id ≡ b → cond b None (Some own) ≡ Some id → ⊥
+    by true same none = none-some id none
+    by false other some = true≢false (sym (eq-eqb own id (same_Some own id some)) ∙ other)
+
+no_pairs : (b : Bool) → (b && false) ≡ false
+no_pairs true = refl
+no_pairs false = refl
+
+and_again : (a b c : Bool) → (a && (b && c)) ≡ ((a && b) && c)
+and_again true b c = refl
+and_again false b c = refl
+
+-- the pairs of the outdated entry that kept them leave the index
+pub IsIndexOf-released : (es : List EntryState) (kept : Option ℕ) (pairs new : List Dependent) → IsIndexOf es kept pairs
+    → ((code other : ℕ) → depends new code other ≡ (not (is_kept kept other) && depends pairs code other)) → IsIndexOf es None new
+IsIndexOf-released es kept pairs new so clause =
+    record {
+      linked = λ k. not (is_kept kept k) && so.linked k;
       same = λ code other.
-          clause code other ∙ ap (λ b. not (eqb id other) && b) (so.same code other) ∙ by code other (eqb id other) refl
-          ∙ sym (has-map (touched id key) (id-touched id key) (needs_code code) es other);
+          clause code other ∙ ap (λ b. not (is_kept kept other) && b) (so.same code other) ∙ within code other (entry_with es other) refl;
+      current = λ id is. and_from (not (is_kept kept id)) (so.linked id) (ap not (never id is kept so.outdated)) (so.current id is);
+      outdated = λ id is. absurd (none-some id is);
     }
   where
-    by : (code other : ℕ) (b : Bool) → eqb id other ≡ b → (not b && has (needs_code code) es other) ≡ has (λ e. needs_code code (touched id key e)) es other
-    by code other true same =
-        let own = exact_unsigned_eq id other same in
-        sym (has-implies (needs key) (λ e. needs_code code (touched id key e)) false es other (ap (has (needs key) es) (sym own) ∙ is)
-        (λ e here need.
-        ap (needs_code code) (touched-own id key e (eq-eqb e.id id (here ∙ sym own)))
-        ∙ ap (λ b. b && has_code e.found.items code) (after_change-outdated key e need)))
-    by code other false apart =
-        has-alike (λ e. e ≡ e) (needs_code code) (λ e. needs_code code (touched id key e)) es other (λ k d within. refl)
-        (λ e _ here. ap (needs_code code) (sym (touched-other id key e (differ e.id id (λ same. true≢false (sym (eq-eqb id other (sym same ∙ here)) ∙ apart))))))
+    never : (id : ℕ) → has (λ e. e.is_current) es id ≡ true → (o : Option ℕ)
+        → ((k : ℕ) → o ≡ Some k → (so.linked k ≡ true) × (has (λ e. not e.is_current) es k ≡ true)) → is_kept o id ≡ false
+    never id is None outdated = refl
+    never id is (Some last) outdated =
+        differ last id (λ same.
+        true≢false (sym (outdated last refl).1 ∙ ap (has (λ e. not e.is_current) es) same
+        ∙ has-implies (λ e. e.is_current) (λ e. not e.is_current) false es id is (λ e _ here. ap not here)))
+
+    within : (code other : ℕ) (o : Option EntryState) → entry_with es other ≡ o
+        → (not (is_kept kept other) && passes (linked_code so.linked code) o) ≡ passes (linked_code (λ k. not (is_kept kept k) && so.linked k) code) o
+    within code other None is = no_pairs (not (is_kept kept other))
+    within code other (Some e) is =
+        let own : e.id ≡ other = (All-entry_with (λ y. y ≡ y) es other e (λ k d within. refl) is).1 in
+        ap (λ n. not (is_kept kept n) && linked_code so.linked code e) (sym own)
+        ∙ and_again (not (is_kept kept e.id)) (so.linked e.id) (has_code e.found.items code)
+
+linked-touched : (linked : ℕ → Bool) (code id : ℕ) (key : Key) (e : EntryState) → linked_code linked code (touched id key e) ≡ linked_code linked code e
+linked-touched linked code id key e =
+    cond_both (eqb e.id id) (after_change (key ∷ []) e) e (λ x. linked_code linked code x ≡ linked_code linked code e) (λ _. refl) (λ _. refl)
+
+still_current : (id : ℕ) (key : Key) (e : EntryState) → (touched id key e).is_current ≡ true → e.is_current ≡ true
+still_current id key e =
+    cond_both (eqb e.id id) (after_change (key ∷ []) e) e (λ x. x.is_current ≡ true → e.is_current ≡ true)
+    (λ _ here. (and_parts e.is_current (not (depends_on (key ∷ []) e)) here).0) (λ _ here. here)
+
+-- an entry that needs a key is current
+needs_current : (key : Key) (es : List EntryState) (id : ℕ) → has (needs key) es id ≡ true → has (λ e. e.is_current) es id ≡ true
+needs_current key es id is =
+    has-implies (needs key) (λ e. e.is_current) true es id is (λ e _ need. (and_parts e.is_current (depends_on (key ∷ []) e) need).0)
+
+-- an entry that becomes outdated keeps its pairs
+pub IsIndexOf-touched : (id : ℕ) (key : Key) (es : List EntryState) (pairs : List Dependent) → IsIndexOf es None pairs → has (needs key) es id ≡ true
+    → IsIndexOf (map (touched id key) es) (Some id) pairs
+IsIndexOf-touched id key es pairs so is =
+    record {
+      linked = so.linked;
+      same = λ code other.
+          so.same code other
+          ∙ has-alike (λ e. e ≡ e) (linked_code so.linked code) (λ e. linked_code so.linked code (touched id key e)) es other (λ k d within. refl)
+          (λ e _ _. sym (linked-touched so.linked code id key e))
+          ∙ sym (has-map (touched id key) (id-touched id key) (linked_code so.linked code) es other);
+      current = λ k now.
+          so.current k (has-implies (λ e. (touched id key e).is_current) (λ e. e.is_current) true es k
+          (sym (has-map (touched id key) (id-touched id key) (λ e. e.is_current) es k) ∙ now) (λ e _ here. still_current id key e here));
+      outdated = λ k own.
+          let same = same_Some id k own in (
+            ap so.linked (sym same) ∙ so.current id (needs_current key es id is),
+            subst (λ (n : ℕ). has (λ e. not e.is_current) (map (touched id key) es) n ≡ true) same gone,
+          );
+    }
+  where
+    gone : has (λ e. not e.is_current) (map (touched id key) es) id ≡ true
+    gone =
+        has-map (touched id key) (id-touched id key) (λ e. not e.is_current) es id
+        ∙ has-implies (needs key) (λ e. not (touched id key e).is_current) true es id is
+        (λ e here need. ap (λ (x : EntryState). not x.is_current) (touched-own id key e (eq-eqb e.id id here)) ∙ ap not (after_change-outdated key e need))
 
 -- the entry of a question is the one with its id
 entry_with-own : (q : Question) (es : List EntryState) (own : EntryState) → InOrder es → entry_of es q ≡ Some own → entry_with es own.id ≡ Some own
@@ -164,30 +252,75 @@ pub or_false : (b : Bool) → (b || false) ≡ b
 or_false true = refl
 or_false false = refl
 
-pub IsIndexOf-renewed : (found : Found) (es : List EntryState) (own : EntryState) (pairs new : List Dependent) → InOrder es
-    → AllPairs (λ a b. a.found.question ≢ b.found.question) es → entry_of es found.question ≡ Some own → IsIndexOf es pairs
+-- the pairs of an entry that is renewed
+pub IsIndexOf-renewed : (found : Found) (es : List EntryState) (own : EntryState) (kept : Option ℕ) (pairs new : List Dependent) → InOrder es
+    → AllPairs (λ a b. a.found.question ≢ b.found.question) es → entry_of es found.question ≡ Some own → IsIndexOf es kept pairs
+    → (kept ≡ Some own.id → ⊥)
     → ((code other : ℕ) → depends new code other ≡ ((eqb own.id other && has_code found.items code) || (not (eqb own.id other) && depends pairs code other)))
-    → IsIndexOf (map (renewed found) es) new
-IsIndexOf-renewed found es own pairs new order apart is so clause =
+    → IsIndexOf (map (renewed found) es) kept new
+IsIndexOf-renewed found es own kept pairs new order apart is so not_kept clause =
     record {
+      linked = λ k. eqb own.id k || so.linked k;
       same = λ code other.
           clause code other
           ∙ ap (λ b. (eqb own.id other && has_code found.items code) || (not (eqb own.id other) && b)) (so.same code other)
           ∙ by code other (eqb own.id other) refl
-          ∙ sym (has-map (renewed found) (id-renewed found) (needs_code code) es other);
+          ∙ sym (has-map (renewed found) (id-renewed found) (linked_code (λ k. eqb own.id k || so.linked k) code) es other);
+      current = λ k now. elim (cases_Bool (eqb own.id k)) [
+        | inl mine ↦ or_left (eqb own.id k) (so.linked k) mine
+        | inr other ↦ or_right (eqb own.id k) (so.linked k) (so.current k (sym (others (λ e. e.is_current) k other) ∙ now))
+      ];
+      outdated = λ k here.
+          let other : eqb own.id k ≡ false = differ own.id k (λ same. not_kept (here ∙ ap Some (sym same))) in (
+            or_right (eqb own.id k) (so.linked k) (so.outdated k here).0,
+            others (λ e. not e.is_current) k other ∙ (so.outdated k here).1,
+          );
     }
   where
+    others : (test : EntryState → Bool) (k : ℕ) → eqb own.id k ≡ false → has test (map (renewed found) es) k ≡ has test es k
+    others test k different =
+        has-map (renewed found) (id-renewed found) test es k
+        ∙ has-alike (λ e. e.found.question ≡ found.question → e.id ≡ own.id) (λ e. test (renewed found e)) test es k
+        (own_ids found.question es own apart is)
+        (λ e mine here. renewed_cases found e (λ x. test x ≡ test e)
+        (λ same. absurd (true≢false (sym (eq-eqb own.id k (sym (mine same) ∙ here)) ∙ different))) (λ _. refl))
+
     by : (code other : ℕ) (b : Bool) → eqb own.id other ≡ b
-        → ((b && has_code found.items code) || (not b && has (needs_code code) es other)) ≡ has (λ e. needs_code code (renewed found e)) es other
+        → ((b && has_code found.items code) || (not b && has (linked_code so.linked code) es other))
+        ≡ has (λ e. linked_code (λ k. eqb own.id k || so.linked k) code (renewed found e)) es other
     by code other true same =
         or_false (has_code found.items code)
-        ∙ renewed_cases found own (λ x. has_code found.items code ≡ needs_code code x) (λ _. refl) (λ not_own. absurd (not_own (question-entry_of found.question es own is)))
-        ∙ sym (ap (passes (λ e. needs_code code (renewed found e))) (ap (entry_with es) (sym (exact_unsigned_eq own.id other same)) ∙ entry_with-own found.question es own order is))
+        ∙ renewed_cases found own (λ x. has_code found.items code ≡ linked_code (λ k. eqb own.id k || so.linked k) code x)
+        (λ _. sym (ap (λ b. (b || so.linked own.id) && has_code found.items code) (eq-eqb own.id own.id refl)))
+        (λ not_own. absurd (not_own (question-entry_of found.question es own is)))
+        ∙ sym (ap (passes (λ e. linked_code (λ k. eqb own.id k || so.linked k) code (renewed found e)))
+        (ap (entry_with es) (sym (exact_unsigned_eq own.id other same)) ∙ entry_with-own found.question es own order is))
     by code other false different =
-        has-alike (λ e. e.found.question ≡ found.question → e.id ≡ own.id) (needs_code code) (λ e. needs_code code (renewed found e)) es other
+        has-alike (λ e. e.found.question ≡ found.question → e.id ≡ own.id) (linked_code so.linked code)
+        (λ e. linked_code (λ k. eqb own.id k || so.linked k) code (renewed found e)) es other
         (own_ids found.question es own apart is)
-        (λ e mine here. renewed_cases found e (λ x. needs_code code e ≡ needs_code code x)
-        (λ same. absurd (true≢false (sym (eq-eqb own.id other (sym (mine same) ∙ here)) ∙ different))) (λ _. refl))
+        (λ e mine here. renewed_cases found e (λ x. linked_code so.linked code e ≡ linked_code (λ k. eqb own.id k || so.linked k) code x)
+        (λ same. absurd (true≢false (sym (eq-eqb own.id other (sym (mine same) ∙ here)) ∙ different)))
+        (λ _. ap (λ b. (b || so.linked e.id) && has_code e.found.items code) (sym (ap (eqb own.id) here ∙ different))))
+
+has_code-map : (items : List Item) (code : ℕ) → has_code items code ≡ list_any (λ k. eqb (code_of_key k) code) (map (λ (i : Item). i.key) items)
+has_code-map [] code = refl
+has_code-map (item ∷ items) code = ap (λ b. eqb (code_of_key item.key) code || b) (has_code-map items code)
+
+-- a renewed entry whose pairs were kept, and whose keys are the same, has its pairs
+pub kept_pairs : (found : Found) (es : List EntryState) (own : EntryState) (pairs : List Dependent) → InOrder es
+    → entry_of es found.question ≡ Some own → IsIndexOf es (Some own.id) pairs → HasKeysOf found.items own
+    → (code other : ℕ) → depends pairs code other ≡ ((eqb own.id other && has_code found.items code) || (not (eqb own.id other) && depends pairs code other))
+kept_pairs found es own pairs order is so keys code other = by (eqb own.id other) refl
+  where
+    by : (b : Bool) → eqb own.id other ≡ b → depends pairs code other ≡ ((b && has_code found.items code) || (not b && depends pairs code other))
+    by true same =
+        ap (depends pairs code) (sym (exact_unsigned_eq own.id other same)) ∙ so.same code own.id
+        ∙ ap (passes (linked_code so.linked code)) (entry_with-own found.question es own order is)
+        ∙ ap (λ b. b && has_code own.found.items code) (so.outdated own.id refl).0
+        ∙ has_code-map own.found.items code ∙ ap (list_any (λ k. eqb (code_of_key k) code)) keys ∙ sym (has_code-map found.items code)
+        ∙ sym (or_false (has_code found.items code))
+    by false apart = refl
 
 -- a new entry is after those that are there
 has-added : (test : EntryState → Bool) (es : List EntryState) (x : EntryState) (id : ℕ) → All (λ e. e.id < x.id) es
@@ -204,30 +337,56 @@ has-added test (e ∷ es) x id below =
       | false ↦ λ other. has-added test es x id (All-tail P e es below)
     ] refl
 
-pub IsIndexOf-added : (found : Found) (number : ℕ) (es : List EntryState) (pairs new : List Dependent) → All (λ e. e.id < number) es → IsIndexOf es pairs
+pub IsIndexOf-added : (found : Found) (number : ℕ) (es : List EntryState) (kept : Option ℕ) (pairs new : List Dependent) → All (λ e. e.id < number) es
+    → IsIndexOf es kept pairs
     → ((code other : ℕ) → depends new code other ≡ ((eqb number other && has_code found.items code) || depends pairs code other))
-    → IsIndexOf (es ++ current number found ∷ []) new
-IsIndexOf-added found number es pairs new below so clause =
+    → IsIndexOf (es ++ current number found ∷ []) kept new
+IsIndexOf-added found number es kept pairs new below so clause =
     record {
+      linked = λ k. eqb number k || so.linked k;
       same = λ code other.
-          clause code other ∙ ap (λ b. (eqb number other && has_code found.items code) || b) (so.same code other)
-          ∙ sym (has-added (needs_code code) es (current number found) other below);
+          clause code other
+          ∙ (λ i. (eqb number other && own code i) || (so.same code other ∙ older code other) i)
+          ∙ sym (has-added (linked_code (λ k. eqb number k || so.linked k) code) es (current number found) other below);
+      current = λ k now. elim (cases_Bool (eqb number k)) [
+        | inl mine ↦ or_left (eqb number k) (so.linked k) mine
+        | inr other ↦
+            or_right (eqb number k) (so.linked k)
+            (so.current k (sym (has-added (λ e. e.is_current) es (current number found) k below ∙ ap (λ b. (b && true) || has (λ e. e.is_current) es k) other) ∙ now))
+      ];
+      outdated = λ k is. (
+        or_right (eqb number k) (so.linked k) (so.outdated k is).0,
+        has-added (λ e. not e.is_current) es (current number found) k below
+            ∙ or_right (eqb number k && false) (has (λ e. not e.is_current) es k) (so.outdated k is).1,
+      );
     }
+  where
+    own : (code : ℕ) → has_code found.items code ≡ linked_code (λ k. eqb number k || so.linked k) code (current number found)
+    own code = sym (ap (λ b. (b || so.linked number) && has_code found.items code) (eq-eqb number number refl))
+
+    older : (code other : ℕ) → has (linked_code so.linked code) es other ≡ has (linked_code (λ k. eqb number k || so.linked k) code) es other
+    older code other =
+        has-alike (λ e. e.id < number) (linked_code so.linked code) (linked_code (λ k. eqb number k || so.linked k) code) es other below
+        (λ e less _. ap (λ b. (b || so.linked e.id) && has_code e.found.items code) (sym (differ number e.id (λ same. omega (arith, less, same)))))
 
 -- pairs that were added and removed again
-pub IsIndexOf-unchanged : (found : Found) (number : ℕ) (es : List EntryState) (pairs more new : List Dependent) → All (λ e. e.id < number) es → IsIndexOf es pairs
+pub IsIndexOf-unchanged : (found : Found) (number : ℕ) (es : List EntryState) (kept : Option ℕ) (pairs more new : List Dependent) → All (λ e. e.id < number) es
+    → IsIndexOf es kept pairs
     → ((code other : ℕ) → depends more code other ≡ ((eqb number other && has_code found.items code) || depends pairs code other))
     → ((code other : ℕ) → depends new code other ≡ (not (eqb number other) && depends more code other))
-    → IsIndexOf es new
-IsIndexOf-unchanged found number es pairs more new below so clause gone =
+    → IsIndexOf es kept new
+IsIndexOf-unchanged found number es kept pairs more new below so clause gone =
     record {
+      linked = so.linked;
       same = λ code other.
           gone code other ∙ ap (λ b. not (eqb number other) && b) (clause code other) ∙ by code other (eqb number other) refl ∙ so.same code other;
+      current = so.current;
+      outdated = so.outdated;
     }
   where
     by : (code other : ℕ) (b : Bool) → eqb number other ≡ b → (not b && ((b && has_code found.items code) || depends pairs code other)) ≡ depends pairs code other
     by code other true same =
-        sym (so.same code other ∙ has-later (needs_code code) es other (subst (λ (n : ℕ). All (λ e. e.id < n) es) (exact_unsigned_eq number other same) below))
+        sym (so.same code other ∙ has-later (linked_code so.linked code) es other (subst (λ (n : ℕ). All (λ e. e.id < n) es) (exact_unsigned_eq number other same) below))
     by code other false apart = refl
 
 -- the entry of a question is removed
@@ -262,15 +421,25 @@ has-without test q (e ∷ es) own other mine others =
           | false ↦ λ _. recur
         ] refl
 
-pub IsIndexOf-removed : (q : Question) (es : List EntryState) (own : EntryState) (pairs new : List Dependent) → InOrder es
-    → AllPairs (λ a b. a.found.question ≢ b.found.question) es → entry_of es q ≡ Some own → IsIndexOf es pairs
-    → ((code other : ℕ) → depends new code other ≡ (not (eqb own.id other) && depends pairs code other)) → IsIndexOf (without q es) new
-IsIndexOf-removed q es own pairs new order apart is so clause =
+pub IsIndexOf-removed : (q : Question) (es : List EntryState) (own : EntryState) (kept : Option ℕ) (pairs new : List Dependent) → InOrder es
+    → AllPairs (λ a b. a.found.question ≢ b.found.question) es → entry_of es q ≡ Some own → IsIndexOf es kept pairs → (kept ≡ Some own.id → ⊥)
+    → ((code other : ℕ) → depends new code other ≡ (not (eqb own.id other) && depends pairs code other)) → IsIndexOf (without q es) kept new
+IsIndexOf-removed q es own kept pairs new order apart is so not_kept clause =
     record {
+      linked = so.linked;
       same = λ code other.
-          clause code other ∙ ap (λ b. not (eqb own.id other) && b) (so.same code other)
-          ∙ sym (has-without (needs_code code) q es own.id other (own_ids q es own apart is) (other_ids q es own order is));
+          clause code other ∙ ap (λ b. not (eqb own.id other) && b) (so.same code other) ∙ sym (rest (linked_code so.linked code) other);
+      current = λ k now.
+          so.current k (and_parts (not (eqb own.id k)) (has (λ e. e.is_current) es k) (sym (rest (λ e. e.is_current) k) ∙ now)).1;
+      outdated = λ k here. (
+        (so.outdated k here).0,
+        rest (λ e. not e.is_current) k
+            ∙ and_from (not (eqb own.id k)) (has (λ e. not e.is_current) es k) (ap not (differ own.id k (λ same. not_kept (here ∙ ap Some (sym same))))) (so.outdated k here).1,
+      );
     }
+  where
+    rest : (test : EntryState → Bool) (k : ℕ) → has test (without q es) k ≡ (not (eqb own.id k) && has test es k)
+    rest test k = has-without test q es own.id k (own_ids q es own apart is) (other_ids q es own order is)
 
 -- ---- the ids of a code
 
@@ -283,10 +452,10 @@ ids_of-depends (p ∷ pairs) code k =
     ]
 
 -- each is that of an entry
-pub few_ids : (es : List EntryState) (pairs : List Dependent) (code : ℕ) → IsIndexOf es pairs → IsDistinct eqb (ids_of pairs code) → length (ids_of pairs code) ≤ length es
-few_ids es pairs code so distinct =
+pub few_ids : (es : List EntryState) (kept : Option ℕ) (pairs : List Dependent) (code : ℕ) → IsIndexOf es kept pairs → IsDistinct eqb (ids_of pairs code) → length (ids_of pairs code) ≤ length es
+few_ids es kept pairs code so distinct =
     let within = length-le_from_is_member nat_eq_equiv (ids_of pairs code) (entry_ids es) distinct (λ k there.
-    is_id-ids_of es k ∙ has-is_id (needs_code code) es k (sym (so.same code k) ∙ sym (ids_of-depends pairs code k) ∙ there)) in
+    is_id-ids_of es k ∙ has-is_id (linked_code so.linked code) es k (sym (so.same code k) ∙ sym (ids_of-depends pairs code k) ∙ there)) in
     omega (arith, within, length-map es (λ (e : EntryState). e.id))
 
 -- ---- a key and its code
@@ -304,23 +473,24 @@ coded (item ∷ items) key there =
       | inr later ↦ or_right (eqb (code_of_key item.key) (code_of_key key)) (has_code items (code_of_key key)) (coded items key later)
     ]
 
-pub needs-code : (key : Key) (e : EntryState) → needs key e ≡ true → needs_code (code_of_key key) e ≡ true
+needs-code : (key : Key) (e : EntryState) → needs key e ≡ true → has_code e.found.items (code_of_key key) ≡ true
 needs-code key e need =
-    let parts = and_parts e.is_current (depends_on (key ∷ []) e) need in
-    and_from e.is_current (has_code e.found.items (code_of_key key)) parts.0
-    (coded e.found.items key (sym (is_some-known e.found.items key) ∙ sym (not_not (is_some (known e.found.items key))) ∙ sym (or_false (not (is_unknown e.found.items key))) ∙ parts.1))
+    coded e.found.items key (sym (is_some-known e.found.items key) ∙ sym (not_not (is_some (known e.found.items key))) ∙ sym (or_false (not (is_unknown e.found.items key)))
+    ∙ (and_parts e.is_current (depends_on (key ∷ []) e) need).1)
 
 -- the current entries that have a key are among those with its code
-pub candidate : (key : Key) (es : List EntryState) (pairs : List Dependent) (id : ℕ) → IsIndexOf es pairs → has (needs key) es id ≡ true
+pub candidate : (key : Key) (es : List EntryState) (kept : Option ℕ) (pairs : List Dependent) (id : ℕ) → IsIndexOf es kept pairs → has (needs key) es id ≡ true
     → depends pairs (code_of_key key) id ≡ true
-candidate key es pairs id so need =
-    so.same (code_of_key key) id ∙ has-implies (needs key) (needs_code (code_of_key key)) true es id need (λ e _ is. needs-code key e is)
+candidate key es kept pairs id so need =
+    so.same (code_of_key key) id
+    ∙ has-implies (needs key) (linked_code so.linked (code_of_key key)) true es id need
+    (λ e here is. and_from (so.linked e.id) (has_code e.found.items (code_of_key key)) (ap so.linked here ∙ so.current id (needs_current key es id need)) (needs-code key e is))
 
 none_there : (k : ℕ) (ids : List ℕ) → length ids ≡ 0 → list_any (eqb k) ids ≡ false
 none_there k [] none = refl
 none_there k (x ∷ ids) none = absurd (omega (arith, none))
 
-pub no_candidate : (key : Key) (es : List EntryState) (pairs : List Dependent) (id : ℕ) → IsIndexOf es pairs → has (needs key) es id ≡ true
+pub no_candidate : (key : Key) (es : List EntryState) (kept : Option ℕ) (pairs : List Dependent) (id : ℕ) → IsIndexOf es kept pairs → has (needs key) es id ≡ true
     → length (ids_of pairs (code_of_key key)) ≡ 0 → ⊥
-no_candidate key es pairs id so need none =
-    true≢false (sym (candidate key es pairs id so need) ∙ sym (ids_of-depends pairs (code_of_key key) id) ∙ none_there id (ids_of pairs (code_of_key key)) none)
+no_candidate key es kept pairs id so need none =
+    true≢false (sym (candidate key es kept pairs id so need) ∙ sym (ids_of-depends pairs (code_of_key key) id) ∙ none_there id (ids_of pairs (code_of_key key)) none)

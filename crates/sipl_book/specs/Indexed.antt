@@ -1,7 +1,8 @@
 -- The entries of a book with the index of the current ones.
-use Rattle.std.specs.Prelude.{◌≡◌, ℕ, ◌+◌, Bool, false, ◌&&◌, ◌==◌, if◌then◌else◌, List, [], ◌∷◌, Some, None}
+use Rattle.std.specs.Prelude.{◌≡◌, ℕ, ◌+◌, Bool, true, false, not, ◌&&◌, ◌==◌, if◌then◌else◌, List, [], ◌∷◌, map, Option, Some, None}
 use Rattle.std.specs.List.{count_by}
 use Rattle.sipl_records.specs.declared.record.Key.{Key}
+use Rattle.sipl_evidence.specs.Items.{Item}
 use Rattle.sipl_evidence.specs.Dependents.{Dependent, depends, has_code}
 use Rattle.sipl_book.specs.Entries.{EntryState, after_change, depends_on}
 use Rattle.sipl_book.specs.Repairs.{entry_with}
@@ -15,9 +16,13 @@ pub record IndexedState : Type 0 where
 abbrev pub has : (EntryState → Bool) → List EntryState → ℕ → Bool
 has test entries id = elim (entry_with entries id) [ Some e ↦ test e | None ↦ false ]
 
--- whether an entry is current and has a key of the code in its evidence
-abbrev pub needs_code : ℕ → EntryState → Bool
-needs_code code e = e.is_current && has_code e.found.items code
+-- whether an entry's id passes a test, and a key of the code is in its evidence
+abbrev pub linked_code : (ℕ → Bool) → ℕ → EntryState → Bool
+linked_code linked code e = linked e.id && has_code e.found.items code
+
+-- an entry has the keys of these items in its evidence, in the same order
+abbrev pub HasKeysOf : List Item → EntryState → Type 0
+HasKeysOf items e = map (λ i. i.key) e.found.items ≡ map (λ i. i.key) items
 
 -- whether an entry is current and has the key in its evidence
 abbrev pub needs : Key → EntryState → Bool
@@ -27,9 +32,17 @@ needs key e = e.is_current && depends_on (key ∷ []) e
 abbrev pub touched : ℕ → Key → EntryState → EntryState
 touched id key e = if e.id == id then after_change (key ∷ []) e else e
 
--- the pairs are those of the current entries
-pub record IsIndexOf (entries : List EntryState) (pairs : List Dependent) : Type 0 where
-  pub same : (code id : ℕ) → depends pairs code id ≡ has (needs_code code) entries id
+-- whether an id is that of the outdated entry that keeps its pairs in the index
+abbrev pub is_kept : Option ℕ → ℕ → Bool
+is_kept kept id = elim kept [ Some own ↦ own == id | None ↦ false ]
+
+-- the pairs are those of some entries: of all current ones, and of the outdated one that keeps them
+pub record IsIndexOf (entries : List EntryState) (kept : Option ℕ) (pairs : List Dependent) : Type 0 where
+  pub linked : ℕ → Bool
+  pub same : (code id : ℕ) → depends pairs code id ≡ has (linked_code linked code) entries id
+  pub current : (id : ℕ) → has (λ e. e.is_current) entries id ≡ true → linked id ≡ true
+  pub outdated : (id : ℕ) → kept ≡ Some id
+      → (linked id ≡ true) × (has (λ e. not e.is_current) entries id ≡ true)
 
 -- how many current entries have an id that passes a test
 abbrev pub current_count : (ℕ → Bool) → List EntryState → ℕ

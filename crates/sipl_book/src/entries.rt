@@ -1,10 +1,10 @@
 //! The entries of a book, by their questions.
-ghost use Rattle.std.specs.Prelude.{◌≡◌, ◌≢◌, [], ◌∷◌, ◌++◌, length, map, option_map, None, true, IfErr, OnOk, OnErr};
+ghost use Rattle.std.specs.Prelude.{◌≡◌, ◌≢◌, [], ◌∷◌, ◌++◌, length, map, option_map, None, Some, true, IfErr, OnOk, OnErr};
 ghost use Rattle.std.specs.List.{AllPairs, count_by};
 ghost use Rattle.std.specs.Option.{option_copied};
 ghost use Rattle.sipl_book.specs.Cache.{InOrder};
-ghost use Rattle.sipl_book.specs.Entries.{entry_of, renewed};
-ghost use Rattle.sipl_book.specs.Indexed.{has, needs, touched};
+ghost use Rattle.sipl_book.specs.Entries.{EntryState, entry_of, renewed};
+ghost use Rattle.sipl_book.specs.Indexed.{HasKeysOf, has, needs, touched};
 ghost use Rattle.sipl_book.specs.Kept.{IsDrawnOf};
 ghost use Rattle.sipl_book.specs.Repairs.{entry_with, is_outdated, without};
 
@@ -144,6 +144,18 @@ impl Entries {
         };
         match self.table.get_index_mut(index) {
             Some(entry) => entry.outdate(key),
+            None => false,
+        }
+    }
+
+    /// Whether the entry of a finding's question has the finding's keys in its evidence, in the same
+    /// order. Linear in their number. Does not allocate.
+    pub(crate) fn has_keys_of(&self, finding: &Finding) -> bool
+        ensures { result ≡ true → (entry : EntryState)
+            → entry_of self.now finding.now.question ≡ Some entry → HasKeysOf finding.now.items entry }
+    {
+        match self.get(finding.question()) {
+            Some(entry) => entry.has_keys_of(finding.evidence().items()),
             None => false,
         }
     }

@@ -1,13 +1,13 @@
-ghost use Rattle.std.specs.Prelude.{◌≡◌, true, [], ◌∷◌, IfOk};
+ghost use Rattle.std.specs.Prelude.{◌≡◌, true, [], ◌∷◌, map, IfOk};
 ghost use Rattle.std.specs.Arc.{arc_value};
 ghost use Rattle.sipl_plans.specs.Findings.{IsSound};
 ghost use Rattle.sipl_plans.specs.Plan.{draw};
 ghost use Rattle.sipl_plans.specs.Servers.{HasFewServers};
 ghost use Rattle.sipl_book.specs.Entries.{after_change, depends_on};
-ghost use Rattle.sipl_book.specs.Indexed.{needs};
+ghost use Rattle.sipl_book.specs.Indexed.{HasKeysOf, needs};
 ghost use Rattle.sipl_book.specs.Kept.{HasOneAnswer};
 
-use sipl_evidence::Evidence;
+use sipl_evidence::{Evidence, Item};
 use sipl_outages::{Board, Held};
 use sipl_plans::{Answer, Finding, Layout, draw};
 use sipl_records::Key;
@@ -111,6 +111,13 @@ impl Entry {
         self.is_current && self.has_key(key)
     }
 
+    // Whether the evidence has the same keys as these items, in the same order.
+    pub(crate) fn has_keys_of(&self, others: &[Item]) -> bool
+        ensures { result ≡ true → HasKeysOf others.now self.now }
+    {
+        have_same_keys(self.finding.evidence().items(), others)
+    }
+
     // Whether the key is in the evidence. Constant time but for hashing.
     pub(crate) fn has_key(&self, key: &Key) -> bool
         ensures { result ≡ depends_on (key.now ∷ []) self.now }
@@ -190,6 +197,14 @@ impl Entry {
     {
         self.finding.share_evidence()
     }
+}
+
+// Whether these items have the same keys, in the same order.
+fn have_same_keys(items: &[Item], others: &[Item]) -> bool
+    ensures { result ≡ true → map (λ i. i.key) items.now ≡ map (λ i. i.key) others.now }
+{
+    let mut pairs = items.iter().zip(others);
+    items.len() == others.len() && pairs.all(|(item, other)| item.key() == other.key())
 }
 
 // Whether the layout has one server, whose targets have one order.

@@ -1,9 +1,10 @@
 //! The entries of a book, with the index of the current ones by the record sets that they depend on.
-ghost use Rattle.std.specs.Prelude.{◌≡◌, ◌≢◌, ℕ, ◌+◌, ◌*◌, ◌≤◌, ◌<◌, [], ◌∷◌, ◌++◌, length, map, nat_eq, option_map, None, Some, true, IfErr, OnOk, OnErr, vec_capacity};
+ghost use Rattle.std.specs.Prelude.{◌≡◌, ◌≢◌, ℕ, ◌+◌, ◌*◌, ◌≤◌, ◌<◌, ◌&&◌, not, if◌then◌else◌, [], ◌∷◌, ◌++◌, length, map, nat_eq, option_map, None, Some, true, IfErr, OnOk, OnErr, vec_capacity};
 ghost use Rattle.std.specs.List.{All, AllPairs, count_by, list_any};
+ghost use Rattle.sipl_evidence.specs.Dependents.{depends};
 ghost use Rattle.sipl_book.specs.Cache.{InOrder};
 ghost use Rattle.sipl_book.specs.Entries.{entry_of, renewed};
-ghost use Rattle.sipl_book.specs.Indexed.{has, needs, touched};
+ghost use Rattle.sipl_book.specs.Indexed.{has, is_kept, needs, touched};
 ghost use Rattle.sipl_book.specs.Kept.{IsDrawnOf};
 ghost use Rattle.sipl_book.specs.Repairs.{without};
 
@@ -17,12 +18,16 @@ use sipl_uri::Question;
 use std::alloc::{AllocError, Global};
 use std::marker::Model;
 
-/// Entries, and which of the current ones depend on which record sets. Contracts see the entries, and
-/// for how many more pairs there is space in the index.
+/// Entries, and which of the current ones depend on which record sets. The entry that became outdated
+/// last may stay in the index. Contracts see the entries, and for how many more pairs there is space in
+/// the index.
 #[derive(Drop)]
 pub(crate) struct Indexed {
     entries: Entries,
     dependents: Dependents,
+    // The entry that became outdated last, until it is renewed: its pairs stay in the index, since it is
+    // mostly looked up next, and has the same keys then.
+    kept: Option<u64>,
 }
 
 impl Model for Indexed {
@@ -32,7 +37,7 @@ impl Model for Indexed {
 
     ghost view = { λ i. record { entries = i.entries; room = i.dependents.room } };
 
-    ghost invariant = { λ i. IsIndexOf i.entries i.dependents.pairs };
+    ghost invariant = { λ i. IsIndexOf i.entries i.kept i.dependents.pairs };
 }
 
 impl Indexed {
@@ -43,6 +48,7 @@ impl Indexed {
         Indexed {
             entries: Entries::new(alloc),
             dependents: Dependents::new(alloc),
+            kept: None,
         }
     }
 
@@ -99,8 +105,13 @@ impl Indexed {
         requires room { length finding.items ≤ self.old.room }
         ensures questions { AllPairs (λ a b. a.found.question ≢ b.found.question) self.old.entries }
         ensures after { self.new.entries ≡ map (renewed finding) self.old.entries }
-        ensures room { self.new.room + length finding.items ≡ self.old.room }
+        ensures room { self.old.room ≤ self.new.room + length finding.items }
     {
+        if self.kept == Some(own_id) && self.entries.has_keys_of(&finding) {
+            self.kept = None;
+            return self.entries.renew(finding);
+        }
+        self.kept = without_id(self.kept, own_id);
         self.dependents.remove(own_id);
         self.dependents.add(own_id, finding.evidence());
         self.entries.renew(finding)
@@ -134,26 +145,30 @@ impl Indexed {
     {
         let id = self.entries.remove(question)?;
         self.dependents.remove(id);
+        self.kept = without_id(self.kept, id);
         Some(id)
     }
 
     /// Makes the entry with an id outdated where it is current and has the key, whose set changed, in
-    /// its evidence. Returns whether it did so. Does not allocate.
+    /// its evidence. Returns whether it did so. It stays in the index then, in place of the one before
+    /// it. Does not allocate.
     pub(crate) fn outdate(&mut self, id: u64, key: &Key) -> bool
         requires order { InOrder self.old.entries }
         ensures needs { result ≡ has (needs key.now) self.old.entries id }
         ensures after { self.new
             ≡ record self.old { entries = map (touched id key.now) self.old.entries } }
     {
-        let is_outdated = self.entries.outdate(id, key);
-        if is_outdated {
-            self.dependents.remove(id);
+        if !self.entries.outdate(id, key) {
+            return false;
         }
-        is_outdated
+        release(&mut self.dependents, self.kept);
+        self.kept = Some(id);
+        true
     }
 
     /// How many current entries have the key in their evidence. Constant time but for hashing where
-    /// none has a key of its code, or else linear in the number of entries. Does not allocate.
+    /// the index has none with a key of its code, or else linear in the number of entries. Does not
+    /// allocate.
     pub(crate) fn dependents(&self, key: &Key) -> usize
         requires order { InOrder self.now.entries }
         ensures { result ≡ count_by (needs key.now) self.now.entries }
@@ -176,5 +191,26 @@ impl Indexed {
         if self.dependents.count(key) > 0 {
             self.dependents.append_ids(key, ids);
         }
+    }
+}
+
+// Removes the pairs of the outdated entry that kept them, if there is one.
+fn release(dependents: &mut Dependents, kept: Option<u64>)
+    ensures pairs { (code id : ℕ) → depends dependents.new.pairs code id
+        ≡ (not (is_kept kept id) && depends dependents.old.pairs code id) }
+    ensures room { dependents.new.room ≡ dependents.old.room }
+{
+    if let Some(id) = kept {
+        dependents.remove(id);
+    }
+}
+
+// The id of the outdated entry that keeps its pairs, unless it is this one.
+fn without_id(kept: Option<u64>, id: u64) -> Option<u64>
+    ensures { result ≡ (if is_kept kept id then None else kept) }
+{
+    match kept {
+        Some(own) if own == id => None,
+        _ => kept,
     }
 }

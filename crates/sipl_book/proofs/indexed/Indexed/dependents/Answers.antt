@@ -15,6 +15,6 @@ returns-then-count-eq0 c =
   where
     none : (k : ℕ) → has (needs c.args.key.now) c.self.inside.entries k ≡ false
     none k = elim (cases_Bool (has (needs c.args.key.now) c.self.inside.entries k)) [
-      | inl need ↦ absurd (no_candidate c.args.key.now c.self.inside.entries c.self.inside.dependents.pairs k c.self.invariant need (omega (arith, c.count.ensures.count, c.if-count-eq0.true)))
+      | inl need ↦ absurd (no_candidate c.args.key.now c.self.inside.entries c.self.inside.kept c.self.inside.dependents.pairs k c.self.invariant need (omega (arith, c.count.ensures.count, c.if-count-eq0.true)))
       | inr free ↦ free
     ]
