@@ -1,17 +1,12 @@
 -- Findings on the sets of a book.
-use Rattle.std.proofs.Common.{◌≡◌, ℕ, zero, suc, ◌+◌, ◌-◌, ◌<◌, List, [], ◌∷◌, ◌++◌, length, not, position, None, Some, refl, sym, ap, subst, ◌∙◌, length-append, arith}
-use Rattle.std.specs.Prelude.{option_map}
+use Rattle.std.proofs.Common.{◌≡◌, ℕ, zero, suc, ◌+◌, List, not, position, None, refl, sym, ap, subst, ◌∙◌, arith}
 use Rattle.std.proofs.lemmas.Bool.{eq-eqb}
-use Rattle.std.proofs.lemmas.List.Elements.{All-nil, All-cons, All-append}
-use Rattle.sipl_records.specs.Sets.{set_of}
-use Rattle.sipl_records.specs.declared.data.Data.{Data}
-use Rattle.sipl_records.specs.declared.record.Key.{Key}
 use Rattle.sipl_choice.specs.Abilities.{Client}
 use Rattle.sipl_uri.specs.declared.question.Question.{Question}
 use Rattle.sipl_evidence.specs.Items.{Item}
 use Rattle.sipl_plans.specs.Findings.{Found}
 use Rattle.sipl_plans.specs.Readings.{IsLooked, IsReadFrom, after_looks}
-use Rattle.sipl_zonestore.specs.Store.{Store, number_in}
+use Rattle.sipl_zonestore.specs.Store.{Store}
 use Rattle.sipl_book.specs.Book.{BookState}
 use Rattle.sipl_book.specs.Calls.{CountsLooks, after_look, is_renumbered, with_looks}
 use Rattle.sipl_book.specs.Honesty.{AreCurrent, IsHonest}
