@@ -1,21 +1,31 @@
-"""What a locator refuses of a stream by its settings, beside what others do: with the same they refuse the same.
+"""What a locator refuses of a stream by its settings, and whom it looks for in what order, beside what others do: with the
+same settings they refuse and answer the same.
 
 At the key STREAM:outcome is the entry that was refused so last: its id, the codes by which locators have refused it, and
-`ok` where another one has not.
+`ok` where another one has not. The hash STREAM:settings has the families and transports of locators, such as `v4 udp,tcp`,
+each with the second of Redis's time at which one has told them last.
 """
 
 from __future__ import annotations
 
 import contextlib
-from typing import Dict, List, NamedTuple, Optional
+import time
+from typing import TYPE_CHECKING, Dict, List, NamedTuple, Optional
 
 import changelog
+
+if TYPE_CHECKING:
+    from siploc import Session
 
 TAKEN = "ok"
 # Refusals by `records`, `holds` and `zone_octets` (K2: by the length of a line, too).
 LIMITS = ("S7", "O4", "K2")
 # How many refusals are known at most.
 KEPT = 4_096
+# Seconds between two times that a locator tells its settings, and for how many they count.
+TOLD, COUNTS = 60, 180
+FAMILIES = {"A": "v4", "AAAA": "v6"}
+TRANSPORTS = {"_sip._udp": "udp", "_sip._tcp": "tcp", "_sip._sctp": "sctp", "_sips._tcp": "tls"}
 
 
 class Outcome(NamedTuple):
@@ -84,3 +94,49 @@ class Outcomes:
         with contextlib.suppress(changelog.Fault):
             text = " ".join([changelog.id_of(outcome.place), *outcome.codes])
             self.stream.ask([[b"SET", self.key(), text.encode()]])
+
+
+def settings_of(session: Session) -> str:
+    """The families and transports of a locator, in their order, by what it reads for a name that has no records."""
+    name = f"none.{changelog.MARKS}"
+    families = [FAMILIES[it.kind] for it in changelog.sets_of(session, name) if it.name == name and it.kind in FAMILIES]
+    services = [it.name[:-len(name) - 1] for uri in (f"sip:{name}", f"sips:{name}") for it in session.deps(uri)
+                if it.kind == "SRV"]
+    return f"{''.join(families)} {','.join(TRANSPORTS[it] for it in services if it in TRANSPORTS)}"
+
+
+class Settings:
+    """The settings of the locators that are given a stream, as far as their replies show them: not `held`."""
+
+    def __init__(self, stream: changelog.Stream) -> None:
+        self.stream, self.next, self.is_told = stream, 0.0, False
+
+    def compare(self, session: Session) -> Optional[str]:
+        """What is to be said, once, where those of another locator differ. The others are told those of this one."""
+        if time.monotonic() < self.next:
+            return None
+        self.next = time.monotonic() + TOLD
+        ours = settings_of(session)
+        other = next((it for it in self.exchange(ours) if it != ours), None)
+        if other is None or self.is_told:
+            return None
+        self.is_told = True
+        return f"this locator has {ours}, and another one {other}: their families or transports differ"
+
+    def exchange(self, ours: str) -> List[str]:
+        """Tells the settings of this locator; those that were told lately."""
+        key = changelog.octets_of(f"{self.stream.key}:settings")
+        # A replica, or one without memory, takes nothing, and another's key is no hash: then nothing is told.
+        with contextlib.suppress(changelog.Fault):
+            now = self.words([b"TIME"])[0]
+            self.stream.ask([[b"HSET", key, ours.encode(), now.encode()], [b"EXPIRE", key, b"%d" % COUNTS]])
+            words = self.words([b"HGETALL", key])
+            return [it for it, at in zip(words[::2], words[1::2]) if at.isdigit() and int(now) - int(at) < COUNTS]
+        return []
+
+    def words(self, command: List[bytes]) -> List[str]:
+        """The reply to a command, which must be an array of texts."""
+        reply = self.stream.ask([command])[0]
+        if not isinstance(reply, list) or not reply:
+            raise changelog.Fault(f"not a reply of Redis: {reply!r}")
+        return [changelog.bytes_of(it).decode("latin-1") for it in reply]
