@@ -55,8 +55,10 @@ pub(crate) fn read_plain(wire: &mut [u8; 64], text: &[u8]) -> Option<usize>
 fn wire_octet(octet: u8) -> Option<u8>
     ensures { result ≡ wire_octet_of octet }
 {
+    if octet.is_ascii_lowercase() {
+        return Some(octet);
+    }
     match octet {
-        b'a'..=b'z' => Some(octet),
         b'0'..=b'9' | b'-' | b'_' => Some(octet),
         b'.' => Some(0),
         b'A'..=b'Z' => Some(octet + 32),

@@ -92,8 +92,8 @@ impl Name {
     }
 
     /// Parses a hostname (RFC 3261, 25.1) as an absolute name. Its octets are letters, digits, `-`, `_`
-    /// and dots, and its last label begins with a letter. `None` where the text is not a hostname. Allocates only where
-    /// all its octets are such.
+    /// and dots, and its last label begins with a letter. `None` where the text is not a hostname.
+    /// Allocates only where all its octets are such.
     pub fn from_hostname(alloc: Global, text: &[u8]) -> Result<Option<Self>, AllocError>
         ensures value { IfOk result (λ name. name ≡ hostname_of text.now) }
         ensures limits { IfOk result (λ name. IfSome name IsName) }

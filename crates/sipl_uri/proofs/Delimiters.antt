@@ -46,7 +46,7 @@ around p s text before after e all =
     let both = and_parts (list_all p before) (list_all p (s ∷ after)) (sym (list_all-append p before (s ∷ after)) ∙ (sym (ap (list_all p) e) ∙ all)) in
     (both.0, (and_parts (p s) (list_all p after) both.1).1)
 
-free_text : (text : Octets) → list_all is_uri_octet text ≡ true → lacks 64 text ≡ true → list_all is_free_octet text ≡ true
+pub free_text : (text : Octets) → list_all is_uri_octet text ≡ true → lacks 64 text ≡ true → list_all is_free_octet text ≡ true
 free_text text all none = list_all-weaker (λ c. is_uri_octet c && not (nat_eq c 64)) is_free_octet uri_free text (list_all-both is_uri_octet (λ c. not (nat_eq c 64)) text all none)
 
 -- [ userinfo "@" ], and the text after it
@@ -96,7 +96,7 @@ uri_text text all = list_all-weaker is_free_octet is_uri_octet free_uri text all
 abbrev after_at : Octets → Octets × Option Octets → Octets
 after_at text cut = elim cut.1 [ Some rest ↦ rest | None ↦ text ]
 
-reads_userinfo : (front rest : Octets) → list_all is_free_octet front ≡ true → list_all is_free_octet rest ≡ true → ReadsUserinfo (front ++ 64 ∷ rest) rest
+pub reads_userinfo : (front rest : Octets) → list_all is_free_octet front ≡ true → list_all is_free_octet rest ≡ true → ReadsUserinfo (front ++ 64 ∷ rest) rest
 reads_userinfo front rest free all =
     let count : ats (front ++ 64 ∷ rest) ≡ 1 = ats-append front (64 ∷ rest) (no_ats front free) ∙ (ats-here 64 rest refl ∙ ap (λ (n : ℕ). 1 + n) (ats-lacks rest (no_ats rest all))) in
     record {
@@ -104,7 +104,7 @@ reads_userinfo front rest free all =
       after = ap (after_at (front ++ 64 ∷ rest)) (split_once-append 64 front rest (no_ats front free));
     }
 
-reads_no_userinfo : (rest : Octets) → list_all is_free_octet rest ≡ true → ReadsUserinfo rest rest
+pub reads_no_userinfo : (rest : Octets) → list_all is_free_octet rest ≡ true → ReadsUserinfo rest rest
 reads_no_userinfo rest all =
     let count : ats rest ≡ 0 = ats-lacks rest (no_ats rest all) in
     record {

@@ -15,6 +15,7 @@ mod SeenNames
 mod ReadParams
 mod WrittenParts
 mod PlainParts
+mod UserParts
 mod PlainQuestions
 mod AddressBounds
 mod Askable

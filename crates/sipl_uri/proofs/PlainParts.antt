@@ -9,9 +9,10 @@ use Rattle.std.proofs.lemmas.List.Folds.{list_all-append}
 use Rattle.sipl_names.specs.Labels.{Octets}
 use Rattle.sipl_names.specs.Hostnames.{is_hostname_octet}
 use Rattle.sipl_records.specs.Parts.{split_once}
-use Rattle.sipl_uri.specs.UriOctets.{is_uri_octet}
+use Rattle.sipl_uri.specs.UriOctets.{is_uri_octet, is_free_octet}
 use Rattle.sipl_uri.specs.UriParts.{Parts, parts_of, parts_of_hostport, split_port, after_userinfo, before_headers}
 use Rattle.sipl_uri.specs.Uris.{has_allowed_octets}
+use Rattle.sipl_uri.proofs.Octets.{hostname_param, param_free, of_hostname, digit_of_label}
 
 -- an octet of a hostname, or a colon
 abbrev pub is_plain_octet : ℕ → Bool
@@ -106,3 +107,19 @@ parts_of-hostport text host rest digits whole colon all all_digits =
       ap has_allowed_octets same ∙ has_allowed_octets-plain (host ++ 58 ∷ digits) plain,
       ap parts_of same ∙ parts_of-plain (host ++ 58 ∷ digits) plain ∙ ap without_params (split_once-first is_hostname_octet 58 refl host digits all),
     )
+
+hostname_is_free : (c : ℕ) → is_hostname_octet c ≡ true → is_free_octet c ≡ true
+hostname_is_free c is = param_free c (hostname_param c is)
+
+digit_is_free : (c : ℕ) → is_ascii_digit c ≡ true → is_free_octet c ≡ true
+digit_is_free c is = hostname_is_free c (of_hostname c (digit_of_label c is))
+
+-- none of their octets is `@`
+pub free-hostname : (text host rest : Octets) → text ≡ host ++ rest → list_all is_hostname_octet host ≡ true → nat_eq (length rest) 0 ≡ true → list_all is_free_octet text ≡ true
+free-hostname text host rest whole all empty =
+    ap (list_all is_free_octet) (whole ∙ no_rest host rest empty) ∙ list_all-weaker is_hostname_octet is_free_octet hostname_is_free host all
+
+pub free-hostport : (text host rest digits : Octets) → text ≡ host ++ rest → rest ≡ 58 ∷ digits → list_all is_hostname_octet host ≡ true → list_all is_ascii_digit digits ≡ true → list_all is_free_octet text ≡ true
+free-hostport text host rest digits whole colon all all_digits =
+    ap (list_all is_free_octet) (whole ∙ ap (λ (r : Octets). host ++ r) colon) ∙ list_all-append is_free_octet host (58 ∷ digits)
+    ∙ and_from _ _ (list_all-weaker is_hostname_octet is_free_octet hostname_is_free host all) (list_all-weaker is_ascii_digit is_free_octet digit_is_free digits all_digits)

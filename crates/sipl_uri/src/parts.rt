@@ -3,7 +3,7 @@ ghost use Rattle.std.specs.Prelude.{◌≡◌, ◌==◌, ◌∷◌, ◌++◌, tr
 ghost use Rattle.std.specs.List.{list_all};
 ghost use Rattle.std.specs.Option.{option_copied, is_some, OnSome};
 ghost use Rattle.sipl_names.specs.Hostnames.{is_hostname_octet};
-ghost use Rattle.sipl_uri.specs.UriOctets.{is_uri_octet};
+ghost use Rattle.sipl_uri.specs.UriOctets.{is_uri_octet, is_free_octet};
 ghost use Rattle.sipl_uri.specs.Uris.{has_allowed_octets};
 ghost use Rattle.sipl_uri.specs.UriParts.{parts_of, params_in, after_userinfo, split_port};
 
@@ -32,6 +32,9 @@ pub(crate) fn read_parts(text: &[u8]) -> Option<Parts<'_>>
     if let Some(parts) = split_plain(text) {
         return Some(parts);
     }
+    if let Some(parts) = split_after_user(text) {
+        return Some(parts);
+    }
     if !has_allowed_octets(text) {
         return None;
     }
@@ -46,6 +49,7 @@ fn split_plain(text: &[u8]) -> Option<Parts<'_>>
     ensures port { IfSome result (λ parts. option_copied parts.port ≡ (parts_of text.now).port) }
     ensures params { IfSome result
         (λ parts. params_in (option_copied parts.params) ≡ (parts_of text.now).params) }
+    ensures octets { OnSome result (list_all is_free_octet text.now ≡ true) }
 {
     let (host, rest) = split_hostname(text);
     if rest.is_empty() {
@@ -64,6 +68,23 @@ fn split_plain(text: &[u8]) -> Option<Parts<'_>>
         port: Some(digits),
         params: None,
     })
+}
+
+// Splits user information and a text that `split_plain` splits. `None` for all other texts.
+fn split_after_user(text: &[u8]) -> Option<Parts<'_>>
+    ensures allowed { OnSome result (has_allowed_octets text.now ≡ true) }
+    ensures host { IfSome result (λ parts. parts.host.now ≡ (parts_of text.now).host) }
+    ensures port { IfSome result (λ parts. option_copied parts.port ≡ (parts_of text.now).port) }
+    ensures params { IfSome result
+        (λ parts. params_in (option_copied parts.params) ≡ (parts_of text.now).params) }
+{
+    let (user, after) = split_once(text, b'@');
+    let hostport = after?;
+    let parts = split_plain(hostport)?;
+    if !has_uri_octets(user) {
+        return None;
+    }
+    Some(parts)
 }
 
 // The text after the colon that begins it.

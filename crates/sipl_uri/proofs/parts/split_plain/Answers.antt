@@ -1,7 +1,7 @@
 use Rattle.std.proofs.Common.{◌≡◌, true, ◌∙◌, ap, sym, [], None, Some}
 use Rattle.sipl_uri.specs.UriParts.{Parts, parts_of}
 use Rattle.sipl_uri.specs.Uris.{has_allowed_octets}
-use Rattle.sipl_uri.proofs.PlainParts.{parts_of-hostname, parts_of-hostport}
+use Rattle.sipl_uri.proofs.PlainParts.{parts_of-hostname, parts_of-hostport, free-hostname, free-hostport}
 use Rattle.sipl_uri.proofs.parts.split_plain.Goals as goal
 
 alone : (c : goal.Then-is_empty) → (has_allowed_octets c.args.text.now ≡ true) × (parts_of c.args.text.now ≡ record { host = c.split_hostname.result.0.now; port = None; params = [] })
@@ -33,3 +33,11 @@ returns-clause-port c = sym (ap (λ (p : Parts). p.port) (with_port c).1)
 
 pub returns-clause-params : goal.returns-clause-params
 returns-clause-params c = sym (ap (λ (p : Parts). p.params) (with_port c).1)
+
+pub returns-then-is_empty-clause-octets : goal.returns-then-is_empty-clause-octets
+returns-then-is_empty-clause-octets c =
+    free-hostname c.args.text.now c.split_hostname.result.0.now c.split_hostname.result.1.now c.split_hostname.ensures.whole c.split_hostname.ensures.host (sym c.is_empty.ensures ∙ c.if-is_empty.true)
+
+pub returns-clause-octets : goal.returns-clause-octets
+returns-clause-octets c =
+    free-hostport c.args.text.now c.split_hostname.result.0.now c.split_hostname.result.1.now c.in_ok-digits.digits.now c.split_hostname.ensures.whole c.in_ok-digits.ensures c.split_hostname.ensures.host (sym c.are_digits.ensures ∙ c.if-not-are_digits.false)
