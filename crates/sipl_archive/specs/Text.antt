@@ -3,9 +3,8 @@ use Rattle.std.specs.Prelude.{ℕ, ◌-◌, List, [], ◌∷◌, ◌++◌, lengt
 use Rattle.sipl_names.specs.Labels.{Octets, Labels}
 use Rattle.sipl_names.specs.NamePrint.{text_of}
 use Rattle.sipl_records.specs.Addresses.{text_of_address}
-use Rattle.sipl_records.specs.declared.data.Data.{Data}
 use Rattle.sipl_records.specs.declared.record.Record.{Record}
-use Rattle.sipl_masterfile.specs.RecordPrint.{printed_string, quoted, record_text, spelled, written_data}
+use Rattle.sipl_masterfile.specs.RecordPrint.{record_text}
 use Rattle.sipl_choice.specs.Transports.{transport_text}
 use Rattle.sipl_choice.specs.declared.endpoint.Endpoint.{Endpoint}
 use Rattle.sipl_uri.specs.QuestionText.{question_text}
@@ -21,14 +20,6 @@ use Rattle.sipl_archive.specs.Sorting.{listed, zones_of}
 -- the line of a record, which reads back to it (`printing_records_reads_back` of `sipl_masterfile`)
 abbrev pub record_line : Record → Octets
 record_line r = record_text r ++ 10 ∷ []
-
--- the type and the data of a record, each field after a space
-abbrev pub data_text : Data → Octets
-data_text value = flat_map (λ field. word_field (spelled field)) (written_data value)
-
--- a character string in quotes, after a space
-abbrev pub string_field : Octets → Octets
-string_field octets = word_field (spelled (quoted (printed_string octets)))
 
 -- `zone APEX COUNT`
 abbrev pub zone_line : Labels → ℕ → Octets

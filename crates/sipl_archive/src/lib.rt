@@ -6,7 +6,6 @@ mod archive;
 mod folder;
 mod items;
 mod plain;
-mod record_text;
 mod runs;
 mod state;
 mod text;

@@ -4,12 +4,12 @@ ghost use Rattle.sipl_lines.specs.ReplyText.{answer_text, counts_line, number_fi
 ghost use Rattle.sipl_lines.specs.ReplyText.{target_line, target_lines};
 ghost use Rattle.sipl_archive.specs.Text.{clock_line, edit_lines, endpoint_text, event_lines};
 ghost use Rattle.sipl_archive.specs.Text.{checkpoint_line, hold_line, hold_lines, state_head, zone_line};
-ghost use Rattle.sipl_archive.specs.Text.{release_line, words_field};
+ghost use Rattle.sipl_archive.specs.Text.{record_line, release_line, words_field};
 ghost use Rattle.sipl_archive.specs.Text.{zone_lines};
 
-use crate::record_text::write_record;
 use sipl_book::{Edit, Event, SharedDraws};
 use sipl_choice::Endpoint;
+use sipl_masterfile::write_record;
 use sipl_names::Name;
 use sipl_outages::Board;
 use sipl_plans::Answer;
@@ -128,11 +128,11 @@ fn write_edit(alloc: Global, out: &mut Vec<u8>, edit: &Edit) -> Result<(), Alloc
         }
         Edit::Add(record) => {
             out.extend_from_slice(b"add ")?;
-            write_record(alloc, out, record)
+            write_record_line(alloc, out, record)
         }
         Edit::Remove(record) => {
             out.extend_from_slice(b"del ")?;
-            write_record(alloc, out, record)
+            write_record_line(alloc, out, record)
         }
     }
 }
@@ -148,8 +148,21 @@ fn write_zone(
 {
     write_zone_line(alloc, out, apex, records.len())?;
     for record in records {
-        write_record(alloc, out, record)?;
+        write_record_line(alloc, out, record)?;
     }
+    Ok(())
+}
+
+/// Appends the line of a record, an entry of a master file (RFC 1035, 5.1).
+pub(crate) fn write_record_line(
+    alloc: Global,
+    out: &mut Vec<u8>,
+    record: &Record,
+) -> Result<(), AllocError>
+    ensures { OnOk result (out.new.items ≡ out.old.items ++ record_line «record».now) }
+{
+    write_record(alloc, out, record)?;
+    out.push(b'\n')?;
     Ok(())
 }
 

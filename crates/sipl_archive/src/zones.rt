@@ -6,8 +6,7 @@ ghost use Rattle.sipl_zonestore.specs.Store.{records_within};
 ghost use Rattle.sipl_archive.specs.Sorting.{listed, paired, with_record, zones_of};
 ghost use Rattle.sipl_archive.specs.Text.{zone_lines, zones_lines};
 
-use crate::record_text::write_record;
-use crate::text::write_zone_line;
+use crate::text::{write_record_line, write_zone_line};
 use indexmap::IndexSet;
 use sipl_names::Name;
 use sipl_records::Record;
@@ -160,7 +159,7 @@ fn write_zone(
 {
     write_zone_line(alloc, out, apex, records.len())?;
     for record in records {
-        write_record(alloc, out, record)?;
+        write_record_line(alloc, out, record)?;
     }
     Ok(())
 }

@@ -146,7 +146,7 @@ pub const DAEMON: [Row; 24] = [
     ZONE_OCTETS,
 ];
 
-/// Pages are kept in it when they are claimed; it has to be there.
+/// Claimed pages are stored in it; it has to be there.
 ///
 /// Without it pages are dropped once they are claimed.
 pub const ARCHIVE: Row = Row {
@@ -261,7 +261,8 @@ pub const LISTEN: Row = Row {
     key: "listen",
     values: Values::List(
         1,
-        "a list, not empty, of addresses of the loopback or Unix sockets, as [\"127.0.0.1:5099\", \"unix:/run/siplocd/lines\"]",
+        "a list, not empty, of addresses of the loopback or Unix sockets, \
+        as [\"127.0.0.1:5099\", \"unix:/run/siplocd/lines\"]",
     ),
     default: DefaultValue::Texts(&["127.0.0.1:5099"]),
 };

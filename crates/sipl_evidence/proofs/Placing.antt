@@ -1,17 +1,18 @@
 -- The places of items in a table by names.
-use Rattle.std.proofs.Common.{◌≡◌, ◌≢◌, ℕ, zero, suc, ◌<◌, ◌+◌, min, ltb, Bool, true, false, not, cond, ◌&&◌, List, [], ◌∷◌, ◌++◌, length, get_or, take, position, Option, None, Some, unwrap_or, is_some, option_map, ◌⊎◌, refl, ap, sym, subst, ◌∙◌, inl, inr, arith, length-append}
+use Rattle.std.proofs.Common.{◌≡◌, ◌≢◌, ℕ, zero, suc, ◌<◌, ◌+◌, min, ltb, Bool, true, false, not, cond, ◌&&◌, List, [], ◌∷◌, ◌++◌, length, get_or, set, replicate, take, position, Option, None, Some, unwrap_or, is_some, option_map, ◌⊎◌, refl, ap, sym, subst, ◌∙◌, inl, inr, arith, length-append}
 use Rattle.std.specs.List.{position_or_len}
-use Rattle.std.proofs.lemmas.Bool.{cases_Bool, cases_lt, lt-ltb, le-ltb}
+use Rattle.std.proofs.lemmas.Bool.{cases_Bool, cases_eq, cases_lt, eq-eqb, lt-ltb, le-ltb, ne_eqb}
 use Rattle.std.proofs.lemmas.List.Quantifiers.{all_pairs_push, position-Some}
 use Rattle.std.proofs.Math.ListN.{get_or-append}
 use Rattle.std.proofs.Math.Seq.{get_or-append_seam, take-suc}
-use Rattle.std.proofs.lemmas.List.{get_or-take, length-take, length-take-le}
+use Rattle.std.proofs.lemmas.List.{get_or-set_same, get_or-set_other, get_or-take, length-take, length-take-le}
 use Rattle.sipl_names.specs.Labels.{Labels, same_name}
 use Rattle.sipl_names.proofs.Public.{same_name_decides}
 use Rattle.sipl_records.specs.declared.kind.Kind.{Kind}
 use Rattle.sipl_records.specs.declared.record.Key.{Key}
+use Rattle.sipl_records.specs.Kinds.{index_of}
 use Rattle.sipl_records.specs.Sets.{same_key, same_kind}
-use Rattle.sipl_records.proofs.Public.{same_key-Decides, same_key-sym}
+use Rattle.sipl_records.proofs.Public.{same_key-Decides, same_key-sym, same_kind-index}
 use Rattle.sipl_evidence.specs.declared.places.Places.{Places}
 use Rattle.sipl_evidence.specs.Items.{Item, HasDistinctKeys}
 use Rattle.sipl_evidence.specs.Known.{known, is_unknown}
@@ -38,6 +39,36 @@ module _ (old new : Labels → Option Places) (k : Key) (place : Option ℕ) (ch
 pub place_at-own : (old : Option Places) (none own : Places) → ((kind : Kind) → place_at none kind ≡ None) → own ≡ unwrap_or old none → (kind : Kind) → place_at own kind ≡ place_among old kind
 place_at-own None none own empty own_is kind = ap (λ p. place_at p kind) own_is ∙ empty kind
 place_at-own (Some places) none own empty own_is kind = ap (λ p. place_at p kind) own_is
+
+-- the place at an index, or none
+abbrev at_index : List (Option ℕ) → ℕ → Option ℕ
+at_index all i = get_or all i None
+
+none_at : (count i : ℕ) → at_index (replicate count None) i ≡ None
+none_at zero i = refl
+none_at (suc count) zero = refl
+none_at (suc count) (suc i) = none_at count i
+
+-- no place, by any index
+pub empty-place_at : (places : Places) (count : ℕ) → places.by_kind ≡ replicate count None → (kind : Kind) → place_at places kind ≡ None
+empty-place_at places count empty kind =
+    ap (λ all. at_index all (index_of kind)) empty ∙ none_at count (index_of kind)
+
+-- the place of one kind set, by its index
+pub set-place_at : (old new : Places) (kind : Kind) (place : Option ℕ) → index_of kind < length old.by_kind → new.by_kind ≡ set old.by_kind (index_of kind) place
+    → (other : Kind) → place_at new other ≡ cond (same_kind kind other) place (place_at old other)
+set-place_at old new kind place within is other =
+    let by_index = same_kind-index kind other in
+    let new_at : place_at new other ≡ get_or (set old.by_kind (index_of kind) place) (index_of other) None = ap (λ all. at_index all (index_of other)) is in
+    elim (cases_eq (index_of other) (index_of kind)) [
+      | inl same ↦
+          new_at ∙ ap (λ i. get_or (set old.by_kind (index_of kind) place) i None) same
+          ∙ get_or-set_same old.by_kind (index_of kind) place None within
+          ∙ sym (ap (λ b. cond b place (place_at old other)) (by_index ∙ eq-eqb (index_of kind) (index_of other) (sym same)))
+      | inr apart ↦
+          new_at ∙ get_or-set_other old.by_kind (index_of kind) (index_of other) place None apart
+          ∙ sym (ap (λ b. cond b place (place_at old other)) (by_index ∙ ne_eqb (index_of kind) (index_of other) (λ e. apart (sym e))))
+    ]
 
 -- a table without places of a name has no place of its keys
 pub place_in-absent : (table : Labels → Option Places) (k : Key) → table k.name ≡ None → (other : Key) → place_in table other ≡ cond (same_key k other) None (place_in table other)

@@ -1,9 +1,9 @@
 -- The places of items, by the names and the kinds of their keys.
-use Rattle.std.specs.Prelude.{◌≡◌, ℕ, ◌<◌, Box, List, length, Option, None, Some, box_value, position}
+use Rattle.std.specs.Prelude.{◌≡◌, ℕ, ◌<◌, Box, List, length, Option, None, Some, box_value, position, slice_index_or}
 use Rattle.indexmap.specs.IndexMap.{IndexMap, get}
 use Rattle.sipl_names.specs.Labels.{Labels, same_name}
 use Rattle.sipl_records.specs.declared.kind.Kind.{Kind}
-use Rattle.sipl_records.specs.declared.kind.Kind.TheVariants.{Address4, Address6, Alias, Service, Pointer, Exists}
+use Rattle.sipl_records.specs.Kinds.{index_of}
 use Rattle.sipl_records.specs.declared.record.Key.{Key}
 use Rattle.sipl_records.specs.Sets.{same_key}
 use Rattle.sipl_evidence.specs.declared.places.Places.{Places}
@@ -11,12 +11,7 @@ use Rattle.sipl_evidence.specs.Items.{Item, HasDistinctKeys}
 
 -- the place of a kind
 abbrev pub place_at : Places → Kind → Option ℕ
-place_at places Address4 = places.address4
-place_at places Address6 = places.address6
-place_at places Alias = places.alias
-place_at places Service = places.service
-place_at places Pointer = places.pointer
-place_at places Exists = places.exists
+place_at places kind = slice_index_or places.by_kind (index_of kind) None
 
 -- the place of a kind, where there are places
 abbrev pub place_among : Option Places → Kind → Option ℕ

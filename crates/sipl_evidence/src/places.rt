@@ -14,15 +14,10 @@ use sipl_names::Name;
 use sipl_records::{Key, Kind};
 use std::alloc::{AllocError, Global};
 
-// The places of the items of one name, by their kinds.
+// The places of the items of one name, by the index of their kind.
 #[derive(Clone, Copy)]
 pub(crate) struct Places {
-    address4: Option<usize>,
-    address6: Option<usize>,
-    alias: Option<usize>,
-    service: Option<usize>,
-    pointer: Option<usize>,
-    exists: Option<usize>,
+    by_kind: [Option<usize>; Kind::COUNT],
 }
 
 impl Places {
@@ -31,12 +26,7 @@ impl Places {
         ensures { (kind : Kind) → place_at result kind ≡ None }
     {
         Places {
-            address4: None,
-            address6: None,
-            alias: None,
-            service: None,
-            pointer: None,
-            exists: None,
+            by_kind: [None; Kind::COUNT],
         }
     }
 
@@ -44,14 +34,7 @@ impl Places {
     pub(crate) fn get(&self, kind: Kind) -> Option<usize>
         ensures { result ≡ place_at self.now kind }
     {
-        match kind {
-            Kind::Address4 => self.address4,
-            Kind::Address6 => self.address6,
-            Kind::Alias => self.alias,
-            Kind::Service => self.service,
-            Kind::Pointer => self.pointer,
-            Kind::Exists => self.exists,
-        }
+        self.by_kind[kind.index()]
     }
 
     // Sets the place of the item of this kind, or that there is none.
@@ -59,14 +42,7 @@ impl Places {
         ensures { (other : Kind) → place_at self.new other
             ≡ (if same_kind kind other then place else place_at self.old other) }
     {
-        match kind {
-            Kind::Address4 => self.address4 = place,
-            Kind::Address6 => self.address6 = place,
-            Kind::Alias => self.alias = place,
-            Kind::Service => self.service = place,
-            Kind::Pointer => self.pointer = place,
-            Kind::Exists => self.exists = place,
-        }
+        self.by_kind[kind.index()] = place;
     }
 }
 

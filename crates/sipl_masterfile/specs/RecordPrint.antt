@@ -98,6 +98,18 @@ spaced (field ∷ next ∷ fields) = field ++ codes " " ++ spaced (next ∷ fiel
 abbrev pub record_text : Record → Octets
 record_text r = spaced (map spelled (written_record r))
 
+-- a field after a space
+abbrev pub spaced_field : Octets → Octets
+spaced_field field = 32 ∷ field
+
+-- the type and the data of a record, each field after a space
+abbrev pub data_text : Data → Octets
+data_text value = flat_map (λ field. spaced_field (spelled field)) (written_data value)
+
+-- a character string in quotes, after a space
+abbrev pub string_field : Octets → Octets
+string_field octets = spaced_field (spelled (quoted (printed_string octets)))
+
 -- the entry of a printed record
 abbrev pub entry_of_record : Record → Entry
 entry_of_record r = record { line = 1; is_indented = false; content = Ok (record_fields r) }

@@ -16,5 +16,5 @@ mod ttl;
 mod zone;
 
 pub use fault::{ZoneCause, ZoneFault};
-pub use record::read_record;
+pub use record::{read_record, write_record};
 pub use zone::{ZoneText, read_zone};

@@ -1,16 +1,19 @@
-//! The types of records and their data (RFC 1035, 5.1).
-ghost use Rattle.std.specs.Prelude.{◌≡◌, ◌≢◌, Ok, Err, IfOk, IfErr};
+//! The types of records and their data (RFC 1035, 5.1), read and printed.
+ghost use Rattle.std.specs.Prelude.{◌≡◌, ◌≢◌, ◌++◌, Ok, Err, decimal, IfOk, IfErr, OnOk};
 ghost use Rattle.std.specs.List.{list_all};
 ghost use Rattle.std.specs.Str.{str_eq_ignore_ascii_case};
 ghost use Rattle.sipl_names.specs.LabelSlices.{octets_of};
+ghost use Rattle.sipl_names.specs.NamePrint.{is_special, printed_octet, text_of};
+ghost use Rattle.sipl_records.specs.Addresses.{text_of_address};
 ghost use Rattle.sipl_records.specs.Kinds.{text_of_kind};
 ghost use Rattle.sipl_masterfile.specs.Rdata.{data_of, data_of_kind, address4_data, address6_data, alias_data, service_data, pointer_data, kind_of_type, is_numbered_kind, are_generic, is_type, is_type_octet};
+ghost use Rattle.sipl_masterfile.specs.RecordPrint.{data_text, spaced_field, string_field};
 
 use crate::fault::ZoneCause;
 use crate::reader::{check_end, first_field, first_number, first_string, last_name};
 use sipl_names::{Name, begins_with_letter};
-use sipl_records::{Boxed, Data, Kind, read_ipv4, read_ipv6};
-use std::alloc::Global;
+use sipl_records::{Address, Boxed, Data, Ipv6Address, Kind, read_ipv4, read_ipv6};
+use std::alloc::{AllocError, Global};
 
 // The data of the fields from the type on.
 pub(crate) fn read_data(alloc: Global, fields: &[&[u8]], origin: &Name) -> Result<Data, ZoneCause>
@@ -65,7 +68,7 @@ fn read_address6(fields: &[&[u8]]) -> Result<Data, ZoneCause>
     let (field, rest) = first_field(fields)?;
     let address = read_ipv6(field)?;
     check_end(rest)?;
-    Ok(Data::Address6(address))
+    Ok(Data::Address6(Ipv6Address::from_number(address)))
 }
 
 // The canonical name of an alias (RFC 1035, 3.3.1).
@@ -118,6 +121,146 @@ fn read_pointer(alloc: Global, fields: &[&[u8]], origin: &Name) -> Result<Data, 
         regexp,
         replacement,
     })
+}
+
+// Appends the type and the data of a record, each field after a space. Data of which nothing is kept
+// are of type `NULL` (RFC 1035, 3.3.10).
+pub(crate) fn write_data(alloc: Global, out: &mut Vec<u8>, data: &Data) -> Result<(), AllocError>
+    ensures { OnOk result (out.new.items ≡ out.old.items ++ data_text «data».now) }
+{
+    match data {
+        Data::Address4(number) => {
+            write_kind(out, Kind::Address4)?;
+            write_address(out, Address::V4(*number))
+        }
+        Data::Address6(address) => {
+            write_kind(out, Kind::Address6)?;
+            write_address(out, Address::V6(address.number()))
+        }
+        Data::Alias(target) => {
+            write_kind(out, Kind::Alias)?;
+            write_name(out, target)
+        }
+        Data::Service {
+            priority,
+            weight,
+            port,
+            target,
+        } => {
+            write_kind(out, Kind::Service)?;
+            write_number(alloc, out, u64::from(*priority))?;
+            write_number(alloc, out, u64::from(*weight))?;
+            write_number(alloc, out, u64::from(*port))?;
+            write_name(out, target)
+        }
+        Data::Pointer {
+            order,
+            preference,
+            flags,
+            services,
+            regexp,
+            replacement,
+        } => {
+            write_kind(out, Kind::Pointer)?;
+            write_number(alloc, out, u64::from(*order))?;
+            write_number(alloc, out, u64::from(*preference))?;
+            write_strings(
+                out,
+                flags.get().as_slice(),
+                services.get().as_slice(),
+                regexp.get().as_slice(),
+            )?;
+            write_name(out, replacement.get())
+        }
+        Data::Bare => out.extend_from_slice(b" NULL"),
+    }
+}
+
+// Appends a space and the mnemonic of a kind.
+fn write_kind(out: &mut Vec<u8>, kind: Kind) -> Result<(), AllocError>
+    ensures { OnOk result (out.new.items ≡ out.old.items ++ spaced_field (text_of_kind kind)) }
+{
+    out.push(b' ')?;
+    out.extend_from_slice(kind.name().as_bytes())
+}
+
+// Appends a space and an address.
+fn write_address(out: &mut Vec<u8>, address: Address) -> Result<(), AllocError>
+    ensures { OnOk result (out.new.items ≡ out.old.items ++ spaced_field (text_of_address address)) }
+{
+    out.push(b' ')?;
+    address.write(out)
+}
+
+// Appends a space and a number.
+fn write_number(alloc: Global, out: &mut Vec<u8>, number: u64) -> Result<(), AllocError>
+    ensures { OnOk result (out.new.items ≡ out.old.items ++ spaced_field (decimal number)) }
+{
+    let text = format!(in alloc; " {number}")?;
+    out.extend_from_slice(text.as_bytes())
+}
+
+// Appends a space and a name.
+fn write_name(out: &mut Vec<u8>, name: &Name) -> Result<(), AllocError>
+    ensures { OnOk result (out.new.items ≡ out.old.items ++ spaced_field (text_of name.now)) }
+{
+    out.push(b' ')?;
+    name.write(out)
+}
+
+// Appends three character strings.
+fn write_strings(
+    out: &mut Vec<u8>,
+    first: &[u8],
+    second: &[u8],
+    third: &[u8],
+) -> Result<(), AllocError>
+    ensures { OnOk result (out.new.items ≡ out.old.items
+        ++ (string_field first.now ++ string_field second.now ++ string_field third.now)) }
+{
+    write_string(out, first)?;
+    write_string(out, second)?;
+    write_string(out, third)
+}
+
+// Appends a space and a character string in quotes.
+fn write_string(out: &mut Vec<u8>, octets: &[u8]) -> Result<(), AllocError>
+    ensures { OnOk result (out.new.items ≡ out.old.items ++ string_field octets.now) }
+{
+    out.extend_from_slice(b" \"")?;
+    for octet in octets {
+        write_octet(out, *octet)?;
+    }
+    out.push(b'"')?;
+    Ok(())
+}
+
+// Appends an octet of a character string, with the escapes of names.
+fn write_octet(out: &mut Vec<u8>, octet: u8) -> Result<(), AllocError>
+    ensures { OnOk result (out.new.items ≡ out.old.items ++ printed_octet octet) }
+{
+    if !octet.is_ascii_graphic() {
+        out.push(b'\\')?;
+        out.push(b'0' + octet / 100)?;
+        out.push(b'0' + octet / 10 % 10)?;
+        out.push(b'0' + octet % 10)?;
+        return Ok(());
+    }
+    if is_special(octet) {
+        out.push(b'\\')?;
+    }
+    out.push(octet)?;
+    Ok(())
+}
+
+// Whether the octet has a meaning of its own in a master file.
+fn is_special(octet: u8) -> bool
+    ensures { result ≡ is_special octet }
+{
+    matches!(
+        octet,
+        b'.' | b'\\' | b'"' | b';' | b'(' | b')' | b'@' | b'$'
+    )
 }
 
 // The kind whose mnemonic is this type, in either case.

@@ -1,14 +1,16 @@
-ghost use Rattle.std.specs.Prelude.{◌≡◌, ◌≢◌, [], IfOk, IfErr, OnOk, Ok, Err};
+ghost use Rattle.std.specs.Prelude.{◌≡◌, ◌≢◌, ◌++◌, [], IfOk, IfErr, OnOk, Ok, Err};
 ghost use Rattle.sipl_records.specs.declared.record.Record.{Record};
 ghost use Rattle.sipl_names.specs.LabelSlices.{octets_of};
+ghost use Rattle.sipl_masterfile.specs.RecordPrint.{record_text};
 ghost use Rattle.sipl_masterfile.specs.RecordText.{record_of, only_record, record_at_end, stated_record, state_directive};
 
 use crate::entries::Entries;
 use crate::fault::{ZoneCause, ZoneFault};
+use crate::rdata::write_data;
 use crate::statement::{Statement, is_directive, read_statement};
 use sipl_names::Name;
 use sipl_records::Record;
-use std::alloc::Global;
+use std::alloc::{AllocError, Global};
 
 /// Reads a text with one entry, which is a record with its owner (RFC 1035, 5.1). Relative names are
 /// below the origin, and `@` is the origin. Linear in the length of the text.
@@ -24,6 +26,15 @@ pub fn read_record(alloc: Global, line: &[u8], origin: &Name) -> Result<Record, 
 {
     let mut fields = Vec::new(alloc);
     read_only_record(alloc, &mut Entries::new(line), &mut fields, origin)
+}
+
+/// Appends a record as an entry of a master file (RFC 1035, 5.1), without a line's end; it reads back to
+/// the record. One of another type, of which nothing is kept, is a `NULL`.
+pub fn write_record(alloc: Global, out: &mut Vec<u8>, record: &Record) -> Result<(), AllocError>
+    ensures { OnOk result (out.new.items ≡ out.old.items ++ record_text «record».now) }
+{
+    record.owner.write(out)?;
+    write_data(alloc, out, &record.value)
 }
 
 // The record of the only one of the entries.

@@ -1,9 +1,9 @@
 -- Equal keys, and the key of a record's set.
-use Rattle.std.proofs.Common.{◌≡◌, ℕ, Bool, true, false, ◌&&◌, List, Option, None, Some, option_map, refl, ap, sym, ◌∙◌, length}
+use Rattle.std.proofs.Common.{◌≡◌, ℕ, zero, suc, nat_eq, Bool, true, false, ◌&&◌, List, Option, None, Some, option_map, refl, ap, sym, ◌∙◌, length}
 use Rattle.std.specs.Option.{option_map_or}
 use Rattle.std.specs.List.{count_by, filter}
 use Rattle.std.specs.Bool.{Decides}
-use Rattle.std.specs.Cmp.{IsEquivalence}
+use Rattle.std.specs.Cmp.{IsEquivalence, unsigned_Decides}
 use Rattle.std.proofs.Math.Bool.{and-false}
 use Rattle.std.proofs.lemmas.Bool.Decides.{Decides-and, Decides-like, same_from_decides}
 use Rattle.sipl_names.specs.Labels.{same_name}
@@ -12,6 +12,7 @@ use Rattle.sipl_records.specs.declared.kind.Kind.{Kind}
 use Rattle.sipl_records.specs.declared.kind.Kind.TheVariants.{Address4, Address6, Alias, Service, Pointer, Exists}
 use Rattle.sipl_records.specs.declared.record.Record.{Record}
 use Rattle.sipl_records.specs.declared.record.Key.{Key}
+use Rattle.sipl_records.specs.Kinds.{index_of}
 use Rattle.sipl_records.specs.Sets.{has_own_kind, has_key, kind_of, same_kind, same_key, key_of, shares_set, data_of}
 use Rattle.sipl_records.proofs.Unique.{equivalence_from_decides}
 use Rattle.sipl_records.proofs.Sets.{data_of-is}
@@ -26,6 +27,29 @@ same_kind-Decides Service Service = (λ _. refl, λ _. refl)
 same_kind-Decides Pointer Pointer = (λ _. refl, λ _. refl)
 same_kind-Decides Exists Exists = (λ _. refl, λ _. refl)
 same_kind-Decides _ _ = (λ h. cc, λ h. cc)
+
+-- the kind of a place among all; the last one, of those that are none
+abbrev kind_at : ℕ → Kind
+kind_at zero = Address4
+kind_at (suc zero) = Address6
+kind_at (suc (suc zero)) = Alias
+kind_at (suc (suc (suc zero))) = Service
+kind_at (suc (suc (suc (suc zero)))) = Pointer
+kind_at _ = Exists
+
+kind_at-index : (kind : Kind) → kind_at (index_of kind) ≡ kind
+kind_at-index Address4 = refl
+kind_at-index Address6 = refl
+kind_at-index Alias = refl
+kind_at-index Service = refl
+kind_at-index Pointer = refl
+kind_at-index Exists = refl
+
+-- two kinds are one where their places are
+pub same_kind-index : (a b : Kind) → same_kind a b ≡ nat_eq (index_of a) (index_of b)
+same_kind-index a b =
+    same_from_decides (same_kind a b) (nat_eq (index_of a) (index_of b)) (same_kind-Decides a b)
+    (Decides-like (nat_eq (index_of a) (index_of b)) (λ e. sym (kind_at-index a) ∙ (ap kind_at e ∙ kind_at-index b)) (λ e. ap index_of e) (unsigned_Decides (index_of a) (index_of b)))
 
 pub same_key-Decides : (a b : Key) → Decides (same_key a b) (a ≡ b)
 same_key-Decides a b =

@@ -2,6 +2,7 @@ ghost use Rattle.std.specs.Prelude.{◌≡◌, IsTrue, IfOk, OnErr};
 ghost use Rattle.sipl_records.specs.Sets.{has_kind, has_name, has_same_kind, kind_of};
 
 use crate::boxed::Boxed;
+use crate::ipv6_address::Ipv6Address;
 use crate::kind::Kind;
 use crate::sequence::Sequence;
 use sipl_names::Name;
@@ -14,8 +15,8 @@ use std::alloc::{AllocError, Global};
 pub enum Data {
     /// An IPv4 address (RFC 1035, 3.4.1), its first octet the highest of the number.
     Address4(u32),
-    /// An IPv6 address (RFC 3596, 2.2), its first octet the highest of the number.
-    Address6(u128),
+    /// An IPv6 address (RFC 3596, 2.2).
+    Address6(Ipv6Address),
     /// The canonical name of an alias (RFC 1035, 3.3.1).
     Alias(Name),
     /// A server of a service (RFC 2782).

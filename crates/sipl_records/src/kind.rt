@@ -1,5 +1,5 @@
-ghost use Rattle.std.specs.Prelude.{◌≡◌};
-ghost use Rattle.sipl_records.specs.Kinds.{text_of_kind};
+ghost use Rattle.std.specs.Prelude.{◌≡◌, ◌<◌};
+ghost use Rattle.sipl_records.specs.Kinds.{index_of, kind_count, text_of_kind};
 
 use std::fmt;
 
@@ -21,6 +21,24 @@ pub enum Kind {
 }
 
 impl Kind {
+    /// How many kinds there are.
+    pub const COUNT: usize = 6;
+
+    /// The place of the kind among all: less than their count, and another for each kind.
+    pub fn index(self) -> usize
+        ensures index { result ≡ index_of self }
+        ensures limit { result < kind_count }
+    {
+        match self {
+            Kind::Address4 => 0,
+            Kind::Address6 => 1,
+            Kind::Alias => 2,
+            Kind::Service => 3,
+            Kind::Pointer => 4,
+            Kind::Exists => 5,
+        }
+    }
+
     /// The mnemonic in master files, such as `AAAA` (RFC 1035, 3.2.2); `EXISTS`, which is none, for
     /// existence.
     pub fn name(self) -> &'static str

@@ -150,9 +150,11 @@ impl Pending {
     pub(crate) fn push_checkpoint(&mut self) -> Result<Checkpoint, AllocError>
         ensures number { IfOk result (λ checkpoint. checkpoint.number ≡ number_after self.old.checkpoint) }
         ensures text { IfOk result
-            (λ checkpoint. self.new.text.items ≡ self.old.text.items ++ checkpoint_line checkpoint.number) }
+            (λ checkpoint. self.new.text.items
+            ≡ self.old.text.items ++ checkpoint_line checkpoint.number) }
         ensures place { IfOk result
-            (λ checkpoint. checkpoint.begin ≡ place_after self.old.end (checkpoint_line checkpoint.number)) }
+            (λ checkpoint. checkpoint.begin
+            ≡ place_after self.old.end (checkpoint_line checkpoint.number)) }
         ensures others { IfOk result (λ checkpoint. self.new ≡ record self.old {
           text = self.new.text;
           end = checkpoint.begin;

@@ -9,15 +9,16 @@ use Rattle.sipl_names.proofs.Public.{same_name_decides}
 use Rattle.sipl_records.specs.declared.data.Data.{Data}
 use Rattle.sipl_records.specs.declared.data.Data.TheVariants.{Bare}
 use Rattle.sipl_records.specs.declared.kind.Kind.{Kind}
-use Rattle.sipl_records.specs.declared.kind.Kind.TheVariants.{Address4, Address6, Alias, Service, Pointer, Exists}
+use Rattle.sipl_records.specs.declared.kind.Kind.TheVariants.{Alias, Exists}
 use Rattle.sipl_records.specs.declared.record.Record.{Record}
 use Rattle.sipl_records.specs.declared.record.Key.{Key}
 use Rattle.sipl_records.specs.Sets.{conflicts, has_key, has_own_kind, has_some_kind, key_of, kind_of, same_data, same_kind, same_record, data_of, shares_set}
 use Rattle.sipl_records.proofs.Public.{own_kind-no_existence, filter-none, has_key-key_of, has_key-name, is_key, key_of-name, same_key-refl, same_name-sym, same_record-Decides, shares_set-Some}
 use Rattle.sipl_zonestore.specs.Numbers.{is_empty}
-use Rattle.sipl_zonestore.specs.SetTable.{OwnerTable, HasSets, conflicts_in, content_of, has_kind_set, has_set}
+use Rattle.sipl_zonestore.specs.SetTable.{OwnerTable, HasSets, conflicts_in, content_of, has_data, has_kind_set, has_no_data, has_set, set_at}
 use Rattle.sipl_zonestore.specs.BareOwners.{HasBare, is_bare_at}
-use Rattle.sipl_zonestore.proofs.Elements.{count-same}
+use Rattle.sipl_zonestore.proofs.Elements.{count-same, or_left, or_right}
+use Rattle.sipl_zonestore.proofs.OwnerSets.{all_empty, data-somewhere, same_kind-refl}
 use Rattle.sipl_zonestore.proofs.BareOwners.{any-agree, any-none}
 
 -- a key has a set where a record has the key
@@ -72,17 +73,7 @@ own_kind new key (Some kind) is =
     let same : made ≡ key = cc in
     ap (λ (k : Key). Some k.kind) same
 
--- which records conflict with one, by the kinds
-any-or : {X : Type 0} (p q : X → Bool) (xs : List X) → list_any (λ x. p x || q x) xs ≡ (list_any p xs || list_any q xs)
-any-or p q [] = refl
-any-or p q (x ∷ xs) = ap (λ b. (p x || q x) || b) (any-or p q xs) ∙ moved (p x) (q x) (list_any p xs) (list_any q xs) where
-  moved : (a b c d : Bool) → ((a || b) || (c || d)) ≡ ((a || c) || (b || d))
-  moved true b c d = refl
-  moved false true true d = refl
-  moved false true false d = refl
-  moved false false true d = refl
-  moved false false false d = refl
-
+-- the records of an owner and a kind
 abbrev of_kind : Labels → Kind → Record → Bool
 of_kind name kind r = has_key (record { name = name; kind = kind }) r
 
@@ -93,16 +84,10 @@ no_record-exists value = elim (cases_Bool (has_own_kind Exists value)) [
   | inl own ↦ let never : true ≡ false = own_kind-no_existence Exists value own in cc
 ]
 
-beside-alias : (same : Bool) (other : Option Kind) → option_map_or (λ own. same_kind own Exists) other false ≡ false → (same && true && is_some other && (true || option_map_or (λ own. same_kind own Alias) other false)) ≡ (same && option_map_or (λ own. same_kind own Address4) other false || same && option_map_or (λ own. same_kind own Address6) other false || same && option_map_or (λ own. same_kind own Alias) other false || same && option_map_or (λ own. same_kind own Service) other false || same && option_map_or (λ own. same_kind own Pointer) other false)
-beside-alias true None none = refl
-beside-alias false None none = refl
-beside-alias true (Some Address4) none = refl
-beside-alias true (Some Address6) none = refl
-beside-alias true (Some Alias) none = refl
-beside-alias true (Some Service) none = refl
-beside-alias true (Some Pointer) none = refl
-beside-alias true (Some Exists) none = let never : true ≡ false = none in cc
-beside-alias false (Some kind) none = refl
+beside-alias : (same other : Bool) (own : Option Kind) → (same && true && is_some own && (true || other)) ≡ (same && is_some own)
+beside-alias true other None = refl
+beside-alias true other (Some kind) = refl
+beside-alias false other own = refl
 
 beside-other : (same : Bool) (other : Option Kind) → (same && true && is_some other && (false || option_map_or (λ own. same_kind own Alias) other false)) ≡ (same && option_map_or (λ own. same_kind own Alias) other false)
 beside-other true None = refl
@@ -116,22 +101,80 @@ conflicts-of new r key own =
     let owner : same_name new.owner r.owner ≡ same_name r.owner key.name = same_name-sym new.owner r.owner ∙ ap (same_name r.owner) (key_of-name new key own) in
     (λ i. owner i && is_some (kind i) && is_some (kind_of r.value) && (option_map_or (λ own. same_kind own Alias) (kind i) false || option_map_or (λ own. same_kind own Alias) (kind_of r.value) false))
 
+-- the records of an owner of which something is kept
+abbrev is_owned : Labels → Record → Bool
+is_owned name r = same_name r.owner name && is_some (kind_of r.value)
+
+no_kind-of : (same : Bool) (own : Option Kind) (kind : Kind) → (same && is_some own) ≡ false → (same && option_map_or (λ own. same_kind own kind) own false) ≡ false
+no_kind-of false own kind none = refl
+no_kind-of true None kind none = refl
+no_kind-of true (Some own) kind none = cc
+
+some_kind-of : (same : Bool) (own : Option Kind) → (same && is_some own) ≡ true → (kind : Kind) × ((same && option_map_or (λ own. same_kind own kind) own false) ≡ true)
+some_kind-of false own some = cc
+some_kind-of true None some = cc
+some_kind-of true (Some own) some = (own, same_kind-refl own)
+
+owned-some : (records : List Record) (name : Labels) (kind : Kind) → list_any (of_kind name kind) records ≡ true → list_any (is_owned name) records ≡ true
+owned-some [] name kind some = cc
+owned-some (r ∷ records) name kind some = elim (cases_Bool (is_owned name r)) [
+  | inl owned ↦ rw owned refl
+  | inr other ↦
+      let away : of_kind name kind r ≡ false = no_kind-of (same_name r.owner name) (kind_of r.value) kind other in
+      rw other (owned-some records name kind (rw away at some))
+]
+
+owned-none : (records : List Record) (name : Labels) → ((kind : Kind) → list_any (of_kind name kind) records ≡ false) → list_any (is_owned name) records ≡ false
+owned-none [] name none = refl
+owned-none (r ∷ records) name none = elim (cases_Bool (is_owned name r)) [
+  | inl owned ↦
+      let own : (kind : Kind) × (of_kind name kind r ≡ true) = some_kind-of (same_name r.owner name) (kind_of r.value) owned in
+      let never : true ≡ false = sym own.1 ∙ or_left (of_kind name own.0 r) (list_any (of_kind name own.0) records) (none own.0) in cc
+  | inr other ↦ rw other (owned-none records name (λ kind. or_right (of_kind name kind r) (list_any (of_kind name kind) records) (none kind)))
+]
+
+-- an owner has data where one of its kinds has a set
+data-kind : (sets : OwnerTable) (name : Labels) → has_data sets name ≡ true → (kind : Kind) × (has_kind_set sets name kind ≡ true)
+data-kind [] name some = cc
+data-kind (owner ∷ owners) name some = elim (cases_Bool (same_name owner.0 name)) [
+  | inl here ↦ elim (cases_Bool (has_no_data owner.1)) [
+    | inl none ↦ let never : false ≡ true = rw (here, none) at some in cc
+    | inr filled ↦
+        let own : (kind : Kind) × (is_empty (set_at kind owner.1).values ≡ false) = data-somewhere owner.1 owner.1 filled in
+        (own.0, rw here (ap not own.1))
+  ]
+  | inr other ↦
+      let own : (kind : Kind) × (has_kind_set owners name kind ≡ true) = data-kind owners name (rw other at some) in
+      (own.0, rw other own.1)
+]
+
+no_data-kind : (sets : OwnerTable) (name : Labels) → has_data sets name ≡ false → (kind : Kind) → has_kind_set sets name kind ≡ false
+no_data-kind [] name none kind = refl
+no_data-kind (owner ∷ owners) name none kind = elim (cases_Bool (same_name owner.0 name)) [
+  | inl here ↦ elim (cases_Bool (has_no_data owner.1)) [
+    | inl empty ↦ rw here (ap not (all_empty owner.1 empty kind))
+    | inr filled ↦ let never : true ≡ false = rw (here, filled) at none in cc
+  ]
+  | inr other ↦ rw other (no_data-kind owners name (rw other at none) kind)
+]
+
 pub conflicts-is : (sets : OwnerTable) (records : List Record) (new : Record) (key : Key) → HasSets sets records → key_of new ≡ Some key → conflicts_in sets key ≡ list_any (conflicts new) records
 conflicts-is sets records new key has own = by_case (same_kind key.kind Alias) refl where
   found : (kind : Kind) → has_kind_set sets key.name kind ≡ list_any (of_kind key.name kind) records
   found kind = has_set-any sets records (record { name = key.name; kind = kind }) has
 
-  four : Record → Bool
-  four r = of_kind key.name Address4 r || of_kind key.name Address6 r || of_kind key.name Alias r || of_kind key.name Service r
+  any : has_data sets key.name ≡ list_any (is_owned key.name) records
+  any = elim (cases_Bool (has_data sets key.name)) [
+    | inl some ↦
+        let kept : (kind : Kind) × (has_kind_set sets key.name kind ≡ true) = data-kind sets key.name some in
+        some ∙ sym (owned-some records key.name kept.0 (sym (found kept.0) ∙ kept.1))
+    | inr none ↦ none ∙ sym (owned-none records key.name (λ kind. sym (found kind) ∙ no_data-kind sets key.name none kind))
+  ]
 
-  by_case : (b : Bool) → same_kind key.kind Alias ≡ b → (if b then has_kind_set sets key.name Address4 || has_kind_set sets key.name Address6 || has_kind_set sets key.name Alias || has_kind_set sets key.name Service || has_kind_set sets key.name Pointer else has_kind_set sets key.name Alias) ≡ list_any (conflicts new) records
+  by_case : (b : Bool) → same_kind key.kind Alias ≡ b → (if b then has_data sets key.name else has_kind_set sets key.name Alias) ≡ list_any (conflicts new) records
   by_case true alias =
-      (λ i. found Address4 i || found Address6 i || found Alias i || found Service i || found Pointer i)
-      ∙ ap (λ b. b || list_any (of_kind key.name Alias) records || list_any (of_kind key.name Service) records || list_any (of_kind key.name Pointer) records) (sym (any-or (of_kind key.name Address4) (of_kind key.name Address6) records))
-      ∙ ap (λ b. b || list_any (of_kind key.name Service) records || list_any (of_kind key.name Pointer) records) (sym (any-or (λ r. of_kind key.name Address4 r || of_kind key.name Address6 r) (of_kind key.name Alias) records))
-      ∙ ap (λ b. b || list_any (of_kind key.name Pointer) records) (sym (any-or (λ r. of_kind key.name Address4 r || of_kind key.name Address6 r || of_kind key.name Alias r) (of_kind key.name Service) records))
-      ∙ sym (any-or (λ r. of_kind key.name Address4 r || of_kind key.name Address6 r || of_kind key.name Alias r || of_kind key.name Service r) (of_kind key.name Pointer) records)
-      ∙ any-agree _ (conflicts new) (λ r. sym (conflicts-of new r key own ∙ ap (λ b. same_name r.owner key.name && true && is_some (kind_of r.value) && (b || option_map_or (λ own. same_kind own Alias) (kind_of r.value) false)) alias ∙ beside-alias (same_name r.owner key.name) (kind_of r.value) (no_record-exists r.value))) records
+      any
+      ∙ any-agree (is_owned key.name) (conflicts new) (λ r. sym (conflicts-of new r key own ∙ ap (λ b. same_name r.owner key.name && true && is_some (kind_of r.value) && (b || option_map_or (λ own. same_kind own Alias) (kind_of r.value) false)) alias ∙ beside-alias (same_name r.owner key.name) (option_map_or (λ own. same_kind own Alias) (kind_of r.value) false) (kind_of r.value))) records
   by_case false other =
       found Alias
       ∙ any-agree (of_kind key.name Alias) (conflicts new) (λ r. sym (conflicts-of new r key own ∙ ap (λ b. same_name r.owner key.name && true && is_some (kind_of r.value) && (b || option_map_or (λ own. same_kind own Alias) (kind_of r.value) false)) other ∙ beside-other (same_name r.owner key.name) (kind_of r.value))) records

@@ -1,10 +1,10 @@
 -- The number and the data of a record set.
-use Rattle.std.proofs.Common.{◌≡◌, ℕ, false, true, not, List, [], ◌∷◌, ◌++◌, refl, ◌∙◌}
+use Rattle.std.proofs.Common.{◌≡◌, ℕ, false, true, not, List, [], ◌∷◌, ◌++◌, refl}
 use Rattle.std.specs.List.{filter}
 use Rattle.sipl_records.specs.declared.data.Data.{Data}
 use Rattle.sipl_records.specs.Sets.{same_data}
 use Rattle.sipl_zonestore.specs.Numbers.{is_empty}
-use Rattle.sipl_zonestore.specs.Content.{Content, no_content, carried, pushed, renumbered, without}
+use Rattle.sipl_zonestore.specs.Content.{Content, no_content, carried, pushed, without}
 
 pub is_empty-push : (values : List Data) (value : Data) → is_empty (values ++ value ∷ []) ≡ false
 is_empty-push [] value = refl
@@ -28,10 +28,3 @@ carried_without value set = by_case set.number set.values where
   by_case : (number : ℕ) (values : List Data) → carried number (filter (λ other. not (same_data value other)) values) ≡ without value (carried number values)
   by_case number [] = refl
   by_case number (first ∷ values) = refl
-
-pub without_carried : (value : Data) (set : Content) → carried (without value set).number (without value set).values ≡ without value (carried set.number set.values)
-without_carried value set =
-    carried_twice set.number (filter (λ other. not (same_data value other)) set.values) ∙ carried_without value set
-
-pub renumbered_carried : (number : ℕ) (set : Content) → carried (renumbered number set).number (renumbered number set).values ≡ renumbered number (carried set.number set.values)
-renumbered_carried number set = carried_twice number set.values

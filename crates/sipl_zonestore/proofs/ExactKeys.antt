@@ -10,10 +10,9 @@ use Rattle.std.proofs.lemmas.Map.Keys.{IsDistinct-from_apart, apart_from_distinc
 use Rattle.std.proofs.lemmas.Map.Views.{Contains-from_any, list_any-from_Contains}
 use Rattle.sipl_names.specs.Labels.{Labels, same_name}
 use Rattle.sipl_names.proofs.Public.{same_name_decides}
-use Rattle.sipl_records.specs.Sets.{exists_in, existence_of, is_existence, same_key, same_kind, set_of}
+use Rattle.sipl_records.specs.Sets.{exists_in, existence_of, is_existence, same_key, set_of}
 use Rattle.sipl_records.specs.Unique.{unique}
-use Rattle.sipl_records.specs.declared.kind.Kind.{Kind}
-use Rattle.sipl_records.specs.declared.kind.Kind.TheVariants.{Address4, Address6, Alias, Service, Pointer, Exists}
+use Rattle.sipl_records.specs.declared.kind.Kind.TheVariants.{Exists}
 use Rattle.sipl_records.specs.declared.record.Record.{Record}
 use Rattle.sipl_records.specs.declared.record.Key.{Key}
 use Rattle.sipl_records.proofs.Public.{equivalence_from_decides, exists_in-append, IsDistinct-unique, list_any-unique, same_key-Decides, set_of-data, set_of-existence, transitive_from_equivalence, unique-filter}
@@ -22,6 +21,7 @@ use Rattle.sipl_zonestore.proofs.BareOwners.{any-filter_tied}
 use Rattle.sipl_zonestore.proofs.ChangedKeys.{among-no_existence, changed-any, changed-no_existence, changed_sets-once, differs-is, differs-true, failed-none}
 use Rattle.sipl_zonestore.proofs.ChangedNames.{any-names, names_of, respects_name}
 use Rattle.sipl_zonestore.proofs.Consistency.{pairs-append}
+use Rattle.sipl_zonestore.proofs.OwnerSets.{same_kind-sym}
 
 flipped : IsEquivalence (λ a b. same_key b a)
 flipped = equivalence_from_decides (λ a b. same_key b a) (λ a b. Decides-like (same_key b a) (λ e. sym e) (λ e. sym e) (same_key-Decides b a))
@@ -45,18 +45,10 @@ changed_names-any old new name =
 
 -- ---- which keys change
 
-kind-flipped : (kind : Kind) → same_kind Exists kind ≡ same_kind kind Exists
-kind-flipped Address4 = refl
-kind-flipped Address6 = refl
-kind-flipped Alias = refl
-kind-flipped Service = refl
-kind-flipped Pointer = refl
-kind-flipped Exists = refl
-
 existence-any : (key : Key) (names : List Labels) → list_any (λ other. same_key other key) (map existence_key names) ≡ (list_any (λ other. same_name other key.name) names && is_existence key)
 existence-any key [] = refl
 existence-any key (name ∷ names) =
-    (λ i. same_name name key.name && kind-flipped key.kind i || existence-any key names i) ∙ shared (same_name name key.name) (is_existence key) (list_any (λ other. same_name other key.name) names) where
+    (λ i. same_name name key.name && same_kind-sym Exists key.kind i || existence-any key names i) ∙ shared (same_name name key.name) (is_existence key) (list_any (λ other. same_name other key.name) names) where
       shared : (a b c : Bool) → (a && b || c && b) ≡ ((a || c) && b)
       shared true true c = refl
       shared true false true = refl

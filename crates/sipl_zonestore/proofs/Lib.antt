@@ -11,6 +11,7 @@ pub mod NameTables
 pub mod CountedNames
 pub mod Counts
 pub mod Contents
+pub mod OwnerSets
 pub mod SetTables
 pub mod OwnerPlaces
 pub mod BareOwners

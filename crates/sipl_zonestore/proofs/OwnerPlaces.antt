@@ -13,7 +13,7 @@ use Rattle.sipl_names.specs.Labels.{Labels, same_name}
 use Rattle.sipl_names.proofs.Public.{same_name_decides}
 use Rattle.sipl_records.proofs.Public.{equivalence_from_decides}
 use Rattle.sipl_zonestore.specs.SetTable.{IsPlace, OwnerTable, no_sets}
-use Rattle.sipl_zonestore.specs.declared.owner_sets.OwnerSets.{OwnerSets}
+use Rattle.sipl_zonestore.specs.SetTable.{OwnerSets}
 use Rattle.sipl_zonestore.proofs.SetTables.{IsUpdated}
 
 -- a look-up in an empty table finds nothing

@@ -1,5 +1,5 @@
 -- Look-ups in tables of record sets.
-use Rattle.std.proofs.Common.{◌≡◌, ℕ, ◌+◌, ◌<◌, Bool, true, false, not, ◌&&◌, ◌||◌, cond, List, [], ◌∷◌, ◌==◌, length, take, get_or, Option, None, Some, Result, Ok, Err, if◌then◌else◌, refl, ap, subst, sym, ◌∙◌, inl, inr, arith}
+use Rattle.std.proofs.Common.{◌≡◌, ℕ, ◌+◌, ◌<◌, Bool, true, false, not, ◌&&◌, ◌||◌, cond, List, [], ◌∷◌, ◌++◌, map, ◌==◌, length, take, get_or, Option, None, Some, Result, Ok, Err, if◌then◌else◌, refl, ap, subst, sym, ◌∙◌, inl, inr, arith}
 use Rattle.std.specs.Prelude.{IfSome, OnOk, OnErr}
 use Rattle.std.specs.List.{filter, list_any, IsDistinct}
 use Rattle.std.specs.Map.{keys_of, lookup, set_value, update_all}
@@ -14,14 +14,13 @@ use Rattle.sipl_names.proofs.Public.{same_name_decides}
 use Rattle.sipl_records.specs.declared.data.Data.{Data}
 use Rattle.sipl_records.specs.declared.record.Key.{Key}
 use Rattle.sipl_records.specs.declared.kind.Kind.{Kind}
-use Rattle.sipl_records.specs.declared.kind.Kind.TheVariants.{Address4, Address6, Alias, Service, Pointer, Exists}
 use Rattle.sipl_records.specs.Sets.{same_key, same_kind}
-use Rattle.sipl_records.proofs.Public.{equivalence_from_decides, same_key-Decides, same_name-sym}
-use Rattle.sipl_zonestore.specs.Numbers.{number_of, is_empty}
+use Rattle.sipl_records.proofs.Public.{equivalence_from_decides, same_key-Decides, same_kind-Decides, same_name-sym}
+use Rattle.sipl_zonestore.specs.Numbers.{SetNumber, number_of, is_empty}
 use Rattle.sipl_zonestore.specs.Content.{Content, no_content, carried, pushed}
-use Rattle.sipl_zonestore.specs.SetTable.{OwnerTable, HaveData, content_of, has_no_data, held, no_sets, numbers_of, set_at, with_set}
-use Rattle.sipl_zonestore.specs.declared.owner_sets.OwnerSets.{OwnerSets}
+use Rattle.sipl_zonestore.specs.SetTable.{OwnerSets, OwnerTable, HaveData, content_of, has_data, has_no_data, held, no_sets, number_at, numbers_of, set_at, with_set}
 use Rattle.sipl_zonestore.proofs.Contents.{carried_none, is_empty-push}
+use Rattle.sipl_zonestore.proofs.OwnerSets.{absent, all_empty, at_kind, data-with_set, has_kind_of, no_data-is}
 
 -- a set without a length is empty
 pub length-empty : (values : List Data) → (length values == 0) ≡ is_empty values
@@ -50,6 +49,18 @@ content-none es name kind none = content-found es (record { name = name; kind = 
 
 pub content-is : (es : OwnerTable) (name : Labels) (kind : Kind) (sets : OwnerSets) → Some sets ≡ lookup (same_name name) es → content_of es (record { name = name; kind = kind }) ≡ held kind sets
 content-is es name kind sets found = content-found es (record { name = name; kind = kind }) ∙ ap (λ found. content_at found kind) (sym found)
+
+-- whether an owner has data is whether one that a look-up finds does
+abbrev pub data_at : Option OwnerSets → Bool
+data_at None = false
+data_at (Some sets) = not (has_no_data sets)
+
+pub has_data-found : (es : OwnerTable) (name : Labels) → has_data es name ≡ data_at (lookup (same_name name) es)
+has_data-found [] name = refl
+has_data-found (e ∷ es) name = elim (cases_Bool (same_name e.0 name)) [
+  | inl here ↦ rw (same_name-sym name e.0, here) refl
+  | inr other ↦ rw (same_name-sym name e.0, other) (has_data-found es name)
+]
 
 -- an owner that a look-up found has data
 pub data-found : (es : OwnerTable) (name : Labels) (sets : OwnerSets) → HaveData es → Some sets ≡ lookup (same_name name) es → has_no_data sets ≡ false
@@ -110,128 +121,26 @@ set_value-same test (e ∷ es) sets found = elim (cases_Bool (test e.0)) [
   | inr other ↦ rw other (ap (λ rest. e ∷ rest) (set_value-same test es sets (rw other at found)))
 ]
 
--- the sets of a kind, and of each other one
-pub at_kind : (f g : Content → Content) (sets : OwnerSets) (kind other : Kind) → same_kind kind Exists ≡ false → ((set : Content) → carried (g set).number (g set).values ≡ f (carried set.number set.values)) → held other (with_set kind (g (set_at kind sets)) sets) ≡ (if same_kind kind other then f (held other sets) else held other sets)
-at_kind f g sets Address4 Address4 of_records is = is sets.address4
-at_kind f g sets Address6 Address6 of_records is = is sets.address6
-at_kind f g sets Alias Alias of_records is = is sets.alias
-at_kind f g sets Service Service of_records is = is sets.service
-at_kind f g sets Pointer Pointer of_records is = is sets.pointer
-at_kind f g sets Address4 Address6 of_records is = refl
-at_kind f g sets Address4 Alias of_records is = refl
-at_kind f g sets Address4 Service of_records is = refl
-at_kind f g sets Address4 Pointer of_records is = refl
-at_kind f g sets Address6 Address4 of_records is = refl
-at_kind f g sets Address6 Alias of_records is = refl
-at_kind f g sets Address6 Service of_records is = refl
-at_kind f g sets Address6 Pointer of_records is = refl
-at_kind f g sets Alias Address4 of_records is = refl
-at_kind f g sets Alias Address6 of_records is = refl
-at_kind f g sets Alias Service of_records is = refl
-at_kind f g sets Alias Pointer of_records is = refl
-at_kind f g sets Service Address4 of_records is = refl
-at_kind f g sets Service Address6 of_records is = refl
-at_kind f g sets Service Alias of_records is = refl
-at_kind f g sets Service Pointer of_records is = refl
-at_kind f g sets Pointer Address4 of_records is = refl
-at_kind f g sets Pointer Address6 of_records is = refl
-at_kind f g sets Pointer Alias of_records is = refl
-at_kind f g sets Pointer Service of_records is = refl
-at_kind f g sets Address4 Exists of_records is = refl
-at_kind f g sets Address6 Exists of_records is = refl
-at_kind f g sets Alias Exists of_records is = refl
-at_kind f g sets Service Exists of_records is = refl
-at_kind f g sets Pointer Exists of_records is = refl
-at_kind f g sets Exists other of_records is = let never : true ≡ false = of_records in cc
-
-pub set_at-with_set : (kind : Kind) (set : Content) (sets : OwnerSets) → same_kind kind Exists ≡ false → set_at kind (with_set kind set sets) ≡ set
-set_at-with_set Address4 set sets of_records = refl
-set_at-with_set Address6 set sets of_records = refl
-set_at-with_set Alias set sets of_records = refl
-set_at-with_set Service set sets of_records = refl
-set_at-with_set Pointer set sets of_records = refl
-set_at-with_set Exists set sets of_records = let never : true ≡ false = of_records in cc
-
 -- where a look-up found the owner, and one of its sets was written
-pub becomes-found : (f g : Content → Content) (es : OwnerTable) (name : Labels) (kind : Kind) (sets : OwnerSets) → same_kind kind Exists ≡ false → ((set : Content) → carried (g set).number (g set).values ≡ f (carried set.number set.values)) → Some sets ≡ lookup (same_name name) es → Becomes f es name kind (Some (with_set kind (g (set_at kind sets)) sets))
-becomes-found f g es name kind sets of_records is found other =
-    at_kind f g sets kind other of_records is ∙ ap (λ content. if same_kind kind other then f content else content) (sym (content-is es name other sets found))
+pub becomes-found : (f g : Content → Content) (es : OwnerTable) (name : Labels) (kind : Kind) (sets : OwnerSets) → ((set : Content) → carried (g set).number (g set).values ≡ f (carried set.number set.values)) → Some sets ≡ lookup (same_name name) es → Becomes f es name kind (Some (with_set kind (g (set_at kind sets)) sets))
+becomes-found f g es name kind sets is found other =
+    at_kind f g sets kind other is ∙ ap (λ content. if same_kind kind other then f content else content) (sym (content-is es name other sets found))
 
 -- where it found none
-pub becomes-new : (f g : Content → Content) (es : OwnerTable) (name : Labels) (kind : Kind) → same_kind kind Exists ≡ false → ((set : Content) → carried (g set).number (g set).values ≡ f (carried set.number set.values)) → None ≡ lookup (same_name name) es → Becomes f es name kind (Some (with_set kind (g (set_at kind no_sets)) no_sets))
-becomes-new f g es name kind of_records is none other =
-    at_kind f g no_sets kind other of_records is ∙ ap (λ content. if same_kind kind other then f content else content) (nothing other ∙ sym (content-none es name other none)) where
-      nothing : (kind : Kind) → held kind no_sets ≡ no_content
-      nothing Address4 = refl
-      nothing Address6 = refl
-      nothing Alias = refl
-      nothing Service = refl
-      nothing Pointer = refl
-      nothing Exists = refl
-
--- all sets of an owner are empty
-all_empty : (sets : OwnerSets) → has_no_data sets ≡ true → (kind : Kind) → is_empty (set_at kind sets).values ≡ true
-all_empty sets none kind = at kind where
-  first : (a b : Bool) → (a && b) ≡ true → a ≡ true
-  first true b both = refl
-  first false b both = cc
-
-  second : (a b : Bool) → (a && b) ≡ true → b ≡ true
-  second true b both = both
-  second false b both = cc
-
-  four : (is_empty sets.address4.values && is_empty sets.address6.values && is_empty sets.alias.values && is_empty sets.service.values) ≡ true
-  four = first (is_empty sets.address4.values && is_empty sets.address6.values && is_empty sets.alias.values && is_empty sets.service.values) (is_empty sets.pointer.values) none
-
-  three : (is_empty sets.address4.values && is_empty sets.address6.values && is_empty sets.alias.values) ≡ true
-  three = first (is_empty sets.address4.values && is_empty sets.address6.values && is_empty sets.alias.values) (is_empty sets.service.values) four
-
-  two : (is_empty sets.address4.values && is_empty sets.address6.values) ≡ true
-  two = first (is_empty sets.address4.values && is_empty sets.address6.values) (is_empty sets.alias.values) three
-
-  at : (kind : Kind) → is_empty (set_at kind sets).values ≡ true
-  at Address4 = first (is_empty sets.address4.values) (is_empty sets.address6.values) two
-  at Address6 = second (is_empty sets.address4.values) (is_empty sets.address6.values) two
-  at Alias = second (is_empty sets.address4.values && is_empty sets.address6.values) (is_empty sets.alias.values) three
-  at Service = second (is_empty sets.address4.values && is_empty sets.address6.values && is_empty sets.alias.values) (is_empty sets.service.values) four
-  at Pointer = second (is_empty sets.address4.values && is_empty sets.address6.values && is_empty sets.alias.values && is_empty sets.service.values) (is_empty sets.pointer.values) none
-  at Exists = refl
+pub becomes-new : (f g : Content → Content) (es : OwnerTable) (name : Labels) (kind : Kind) → ((set : Content) → carried (g set).number (g set).values ≡ f (carried set.number set.values)) → None ≡ lookup (same_name name) es → Becomes f es name kind (Some (with_set kind (g (set_at kind no_sets)) no_sets))
+becomes-new f g es name kind is none other =
+    at_kind f g no_sets kind other is ∙ ap (λ content. if same_kind kind other then f content else content) (sym (content-none es name other none))
 
 -- so that the owner may be removed
-pub becomes-gone : (f g : Content → Content) (es : OwnerTable) (name : Labels) (kind : Kind) (sets : OwnerSets) → same_kind kind Exists ≡ false → ((set : Content) → carried (g set).number (g set).values ≡ f (carried set.number set.values)) → Some sets ≡ lookup (same_name name) es → has_no_data (with_set kind (g (set_at kind sets)) sets) ≡ true → Becomes f es name kind None
-becomes-gone f g es name kind sets of_records is found none other =
+pub becomes-gone : (f g : Content → Content) (es : OwnerTable) (name : Labels) (kind : Kind) (sets : OwnerSets) → ((set : Content) → carried (g set).number (g set).values ≡ f (carried set.number set.values)) → Some sets ≡ lookup (same_name name) es → has_no_data (with_set kind (g (set_at kind sets)) sets) ≡ true → Becomes f es name kind None
+becomes-gone f g es name kind sets is found none other =
     carried_none (set_at other (with_set kind (g (set_at kind sets)) sets)).number (set_at other (with_set kind (g (set_at kind sets)) sets)).values (all_empty (with_set kind (g (set_at kind sets)) sets) none other)
-    ∙ becomes-found f g es name kind sets of_records is found other
-
--- an owner has data where one of its sets does
-and_false : (a : Bool) → (a && false) ≡ false
-and_false true = refl
-and_false false = refl
-
-pub data-with_set : (kind : Kind) (set : Content) (sets : OwnerSets) → same_kind kind Exists ≡ false → is_empty set.values ≡ false → has_no_data (with_set kind set sets) ≡ false
-data-with_set Address4 set sets of_records filled = rw filled refl
-data-with_set Address6 set sets of_records filled = rw (filled, and_false (is_empty sets.address4.values)) refl
-data-with_set Alias set sets of_records filled =
-    rw (filled, and_false (is_empty sets.address4.values && is_empty sets.address6.values)) refl
-data-with_set Service set sets of_records filled =
-    rw (filled, and_false (is_empty sets.address4.values && is_empty sets.address6.values && is_empty sets.alias.values)) refl
-data-with_set Pointer set sets of_records filled =
-    rw filled (and_false (is_empty sets.address4.values && is_empty sets.address6.values && is_empty sets.alias.values && is_empty sets.service.values))
-data-with_set Exists set sets of_records filled = let never : true ≡ false = of_records in cc
-
--- and a set with the same data
-pub data-same : (kind : Kind) (set : Content) (sets : OwnerSets) → is_empty set.values ≡ is_empty (set_at kind sets).values → has_no_data (with_set kind set sets) ≡ has_no_data sets
-data-same Address4 set sets same = rw same refl
-data-same Address6 set sets same = rw same refl
-data-same Alias set sets same = rw same refl
-data-same Service set sets same = rw same refl
-data-same Pointer set sets same = rw same refl
-data-same Exists set sets same = refl
+    ∙ becomes-found f g es name kind sets is found other
 
 -- an owner has data after an attempt to append to one of its sets
-pub filled-push : {T E : Type 0} (result : Result T E) (kind : Kind) (old new : OwnerSets) (number : ℕ) (value : Data) → same_kind kind Exists ≡ false → OnOk result (new ≡ with_set kind (pushed number value (set_at kind old)) old) → OnErr result (new ≡ old) → has_no_data old ≡ false → has_no_data new ≡ false
-filled-push (Ok done) kind old new number value of_records is _ filled = ap has_no_data is ∙ data-with_set kind (pushed number value (set_at kind old)) old of_records (is_empty-push (set_at kind old).values value)
-filled-push (Err fault) kind old new number value _ _ is filled = ap has_no_data is ∙ filled
+pub filled-push : {T E : Type 0} (result : Result T E) (kind : Kind) (old new : OwnerSets) (number : ℕ) (value : Data) → OnOk result (new ≡ with_set kind (pushed number value (set_at kind old)) old) → OnErr result (new ≡ old) → has_no_data old ≡ false → has_no_data new ≡ false
+filled-push (Ok done) kind old new number value is _ filled = ap has_no_data is ∙ data-with_set kind (pushed number value (set_at kind old)) old (is_empty-push (set_at kind old).values value)
+filled-push (Err fault) kind old new number value _ is filled = ap has_no_data is ∙ filled
 
 pub OnErr-map : {T E : Type 0} (result : Result T E) (P Q : Type 0) → (P → Q) → OnErr result P → OnErr result Q
 OnErr-map (Ok done) P Q f p = tt
@@ -280,7 +189,7 @@ none-empty : (found : Option OwnerSets) → HasData found → ((kind : Kind) →
 none-empty None have empty = refl
 none-empty (Some sets) have empty =
     let none : (kind : Kind) → is_empty (set_at kind sets).values ≡ true = λ kind. ap (λ (content : Content). is_empty content.values) (empty kind) in
-    let never : false ≡ true = sym have ∙ (λ i. none Address4 i && none Address6 i && none Alias i && none Service i && none Pointer i) in cc
+    let never : false ≡ true = sym have ∙ no_data-is sets none in cc
 
 pub content-replaced : (inside : Labels → Bool) (old kept text new : OwnerTable) → AreReplaced inside old kept text new → HaveData text → ((key : Key) → inside key.name ≡ false → content_of text key ≡ no_content) → (key : Key) → content_of new key ≡ (if inside key.name then content_of text key else content_of old key)
 content-replaced inside old kept text new is have none key =
@@ -299,25 +208,54 @@ data-replaced inside old kept text new is have text_data name =
       by_case None true own = tt
       by_case None false own = have name
 
--- no number is of existence
-number_of-existence : (owners : OwnerTable) (name : Labels) → number_of (numbers_of owners) (record { name = name; kind = Exists }) ≡ 0
-number_of-existence [] name = refl
-number_of-existence (owner ∷ owners) name = elim (cases_Bool (same_name owner.0 name)) [
-  | inl here ↦ rw here (number_of-existence owners name)
-  | inr other ↦ rw other (number_of-existence owners name)
+-- the numbers of an owner's sets come first, and no later ones of its name follow
+numbers-own : (owner : Labels × OwnerSets) (key : Key) (sets : OwnerSets) (rest : List SetNumber) → same_name owner.0 key.name ≡ true → number_of (map (λ own. number_at own.kind owner) sets ++ rest) key ≡ (if has_kind_of key.kind sets then (held key.kind owner.1).number else number_of rest key)
+numbers-own owner key [] rest here = refl
+numbers-own owner key (own ∷ sets) rest here = elim (cases_Bool (same_kind own.kind key.kind)) [
+  | inl same ↦ rw (here, same) (ap (λ kind. (held kind owner.1).number) ((same_kind-Decides own.kind key.kind).0 same))
+  | inr apart ↦ rw (here, apart) (numbers-own owner key sets rest here)
+]
+
+numbers-passed : (owner : Labels × OwnerSets) (key : Key) (sets : OwnerSets) (rest : List SetNumber) → same_name owner.0 key.name ≡ false → number_of (map (λ own. number_at own.kind owner) sets ++ rest) key ≡ number_of rest key
+numbers-passed owner key [] rest other = refl
+numbers-passed owner key (own ∷ sets) rest other = rw other (numbers-passed owner key sets rest other)
+
+numbers-none : (name : Labels) (key : Key) (numbers : List SetNumber) → same_name name key.name ≡ true → number_of (filter (λ other. not (same_name name other.key.name)) numbers) key ≡ 0
+numbers-none name key [] here = refl
+numbers-none name key (first ∷ numbers) here = elim (cases_Bool (same_name name first.key.name)) [
+  | inl same ↦ rw same (numbers-none name key numbers here)
+  | inr apart ↦
+      let away : same_name first.key.name key.name ≡ false = sym (ap (λ n. same_name first.key.name n) ((same_name_decides name key.name).0 here)) ∙ same_name-sym first.key.name name ∙ apart in
+      rw (apart, away) (numbers-none name key numbers here)
+]
+
+numbers-left : (name : Labels) (key : Key) (numbers : List SetNumber) → same_name name key.name ≡ false → number_of (filter (λ other. not (same_name name other.key.name)) numbers) key ≡ number_of numbers key
+numbers-left name key [] other = refl
+numbers-left name key (first ∷ numbers) other = elim (cases_Bool (same_name name first.key.name)) [
+  | inl same ↦
+      let away : same_name first.key.name key.name ≡ false = ap (λ n. same_name n key.name) (sym ((same_name_decides name first.key.name).0 same)) ∙ other in
+      rw (same, away) (numbers-left name key numbers other)
+  | inr apart ↦ elim (cases_Bool (same_key first.key key)) [
+    | inl found ↦ rw (apart, found) refl
+    | inr passed ↦ rw (apart, passed) (numbers-left name key numbers other)
+  ]
 ]
 
 -- the number that callers see is that of the content
 pub number_of-numbers_of : (owners : OwnerTable) (key : Key) → number_of (numbers_of owners) key ≡ (content_of owners key).number
 number_of-numbers_of [] key = refl
 number_of-numbers_of (owner ∷ owners) key = elim (cases_Bool (same_name owner.0 key.name)) [
-  | inl here ↦ rw here (own key.kind refl)
-  | inr other ↦ rw other (number_of-numbers_of owners key)
+  | inl here ↦
+      numbers-own owner key owner.1 (later owner owners) here
+      ∙ ap (λ n. if has_kind_of key.kind owner.1 then (held key.kind owner.1).number else n) (numbers-none owner.0 key (numbers_of owners) here)
+      ∙ by_kind (has_kind_of key.kind owner.1) refl ∙ rw here refl
+  | inr other ↦
+      numbers-passed owner key owner.1 (later owner owners) other
+      ∙ numbers-left owner.0 key (numbers_of owners) other ∙ number_of-numbers_of owners key ∙ rw other refl
 ] where
-  own : (kind : Kind) → key.kind ≡ kind → (if same_kind Address4 kind then (held Address4 owner.1).number else (if same_kind Address6 kind then (held Address6 owner.1).number else (if same_kind Alias kind then (held Alias owner.1).number else (if same_kind Service kind then (held Service owner.1).number else (if same_kind Pointer kind then (held Pointer owner.1).number else number_of (numbers_of owners) key))))) ≡ (held kind owner.1).number
-  own Address4 is = refl
-  own Address6 is = refl
-  own Alias is = refl
-  own Service is = refl
-  own Pointer is = refl
-  own Exists is = ap (λ kind. number_of (numbers_of owners) (record { name = key.name; kind = kind })) is ∙ number_of-existence owners key.name
+  later : Labels × OwnerSets → OwnerTable → List SetNumber
+  later owner owners = filter (λ other. not (same_name owner.0 other.key.name)) (numbers_of owners)
+
+  by_kind : (b : Bool) → has_kind_of key.kind owner.1 ≡ b → (if b then (held key.kind owner.1).number else 0) ≡ (held key.kind owner.1).number
+  by_kind true some = refl
+  by_kind false none = ap (λ (set : Content). (carried set.number set.values).number) (sym (absent key.kind owner.1 none))

@@ -11,7 +11,6 @@ pub mod ZoneStore
 pub mod Machine
 pub mod Content
 pub mod SetTable
-pub mod Lending
 pub mod BareOwners
 pub mod NameTable
 pub mod IndexedRecords
@@ -19,5 +18,4 @@ pub mod Patches
 pub mod Differences
 pub mod Loading
 pub mod RecordList
-pub mod RecordSet
 pub use Rattle.sipl_masterfile.specs.Zones

@@ -1,6 +1,6 @@
 -- A table of record sets by their owners and kinds.
-use Rattle.std.specs.Prelude.{◌≡◌, ℕ, Bool, false, not, ◌&&◌, ◌||◌, List, [], ◌∷◌, filter, slice_get, Some, if◌then◌else◌, IfSome}
-use Rattle.std.specs.List.{position_from}
+use Rattle.std.specs.Prelude.{◌≡◌, ℕ, Bool, true, false, not, ◌&&◌, List, [], ◌∷◌, ◌++◌, filter, map, slice_get, Some, if◌then◌else◌, IfSome}
+use Rattle.std.specs.List.{list_all, list_any, position_from}
 use Rattle.std.specs.Map.{lookup}
 use Rattle.std.specs.Option.{option_to_list, unwrap_or}
 use lib.Pointwise.{pointwise}
@@ -8,47 +8,43 @@ use Rattle.sipl_names.specs.Labels.{Labels, same_name}
 use Rattle.sipl_records.specs.Sets.{data_of, same_data, same_key, same_kind, key_of}
 use Rattle.sipl_records.specs.declared.data.Data.{Data}
 use Rattle.sipl_records.specs.declared.kind.Kind.{Kind}
-use Rattle.sipl_records.specs.declared.kind.Kind.TheVariants.{Address4, Address6, Alias, Service, Pointer, Exists}
+use Rattle.sipl_records.specs.declared.kind.Kind.TheVariants.{Alias}
 use Rattle.sipl_records.specs.declared.record.Record.{Record}
 use Rattle.sipl_records.specs.declared.record.Key.{Key}
 use Rattle.sipl_zonestore.specs.Numbers.{SetNumber, is_empty}
 use Rattle.sipl_zonestore.specs.Content.{Content, no_content, carried, without}
-use Rattle.sipl_zonestore.specs.declared.owner_sets.OwnerSets.{OwnerSets}
+use Rattle.sipl_zonestore.specs.declared.owner_sets.KindSet.{KindSet}
 
--- the set of a kind among those of an owner; a table has no set of existence
+-- the sets of an owner, each with its kind
+abbrev pub OwnerSets : Type 0
+OwnerSets = List KindSet
+
+-- the set of a kind among those of an owner
 abbrev pub set_at : Kind → OwnerSets → Content
-set_at Address4 sets = sets.address4
-set_at Address6 sets = sets.address6
-set_at Alias sets = sets.alias
-set_at Service sets = sets.service
-set_at Pointer sets = sets.pointer
-set_at Exists sets = no_content
+set_at kind [] = no_content
+set_at kind (own ∷ sets) = if same_kind own.kind kind then own.set else set_at kind sets
 
--- the sets of an owner, where that of this kind is this one
+-- the sets of an owner, where that of this kind is this one: a kind of which there was none comes last,
+-- unless its set is empty
 abbrev pub with_set : Kind → Content → OwnerSets → OwnerSets
-with_set Address4 set sets = record sets { address4 = set }
-with_set Address6 set sets = record sets { address6 = set }
-with_set Alias set sets = record sets { alias = set }
-with_set Service set sets = record sets { service = set }
-with_set Pointer set sets = record sets { pointer = set }
-with_set Exists set sets = sets
+with_set kind set [] = if is_empty set.values then [] else record { kind = kind; set = set } ∷ []
+with_set kind set (own ∷ sets) =
+    if same_kind own.kind kind then record { kind = own.kind; set = set } ∷ sets
+    else own ∷ with_set kind set sets
 
--- empty sets
+-- no sets
 abbrev pub no_sets : OwnerSets
-no_sets =
-    record {
-      address4 = no_content;
-      address6 = no_content;
-      alias = no_content;
-      service = no_content;
-      pointer = no_content;
-    }
+no_sets = []
 
 -- whether all sets of an owner are empty
 abbrev pub has_no_data : OwnerSets → Bool
-has_no_data sets =
-    is_empty sets.address4.values && is_empty sets.address6.values && is_empty sets.alias.values
-    && is_empty sets.service.values && is_empty sets.pointer.values
+has_no_data sets = list_all (λ own. is_empty (set_at own.kind sets).values) sets
+
+-- whether an owner has at most one set of each kind
+abbrev pub has_kinds_once : OwnerSets → Bool
+has_kinds_once [] = true
+has_kinds_once (own ∷ sets) =
+    not (list_any (λ other. same_kind other.kind own.kind) sets) && has_kinds_once sets
 
 -- the sets of a table by their owners
 abbrev pub OwnerTable : Type 0
@@ -75,12 +71,12 @@ abbrev pub number_at : Kind → Labels × OwnerSets → SetNumber
 number_at kind owner =
     record { key = record { name = owner.0; kind = kind }; number = (held kind owner.1).number }
 
--- the number of each set, 0 of those that are empty
+-- the number of each set, 0 of those that are empty; an owner is one of its name
 abbrev pub numbers_of : OwnerTable → List SetNumber
 numbers_of [] = []
 numbers_of (owner ∷ owners) =
-    number_at Address4 owner ∷ number_at Address6 owner ∷ number_at Alias owner
-    ∷ number_at Service owner ∷ number_at Pointer owner ∷ numbers_of owners
+    map (λ own. number_at own.kind owner) owner.1
+    ++ filter (λ other. not (same_name owner.0 other.key.name)) (numbers_of owners)
 
 -- each owner that a look-up finds has data
 abbrev pub HaveData : OwnerTable → Type 0
@@ -95,15 +91,17 @@ has_set sets key = not (is_empty (content_of sets key).values)
 abbrev pub has_kind_set : OwnerTable → Labels → Kind → Bool
 has_kind_set sets name kind = has_set sets (record { name = name; kind = kind })
 
+-- whether an owner has data of some kind
+abbrev pub has_data : OwnerTable → Labels → Bool
+has_data [] name = false
+has_data (owner ∷ owners) name =
+    if same_name owner.0 name then not (has_no_data owner.1) else has_data owners name
+
 -- whether a record of this key conflicts with the sets of its owner (RFC 1034, 3.6.2): an alias
 -- does with each, and any other record with an alias
 abbrev pub conflicts_in : OwnerTable → Key → Bool
 conflicts_in sets key =
-    if same_kind key.kind Alias
-    then has_kind_set sets key.name Address4 || has_kind_set sets key.name Address6
-    || has_kind_set sets key.name Alias || has_kind_set sets key.name Service
-    || has_kind_set sets key.name Pointer
-    else has_kind_set sets key.name Alias
+    if same_kind key.kind Alias then has_data sets key.name else has_kind_set sets key.name Alias
 
 -- the key of a record, where its set has other data
 abbrev pub keys_left : OwnerTable → Record → List Key

@@ -1,5 +1,5 @@
 //! A record compared with those of its owner, by the tables of sets and owners.
-ghost use Rattle.std.specs.Prelude.{◌≡◌, ◌||◌};
+ghost use Rattle.std.specs.Prelude.{◌≡◌};
 ghost use Rattle.std.specs.List.{list_any};
 ghost use Rattle.sipl_records.specs.Sets.{same_data};
 ghost use Rattle.sipl_zonestore.specs.SetTable.{conflicts_in, has_kind_set};
@@ -26,32 +26,15 @@ pub(crate) fn has_value(values: &[Data], value: &Data) -> bool
     values.iter().any(|other| *value == *other)
 }
 
-// Whether a record of this owner and kind conflicts with one of the sets of its owner. At most five
-// look-ups. Does not allocate.
+// Whether a record of this owner and kind conflicts with one of the sets of its owner. One look-up. Does
+// not allocate.
 pub(crate) fn has_conflict(sets: &SetTable, owner: &Name, kind: Kind) -> bool
     ensures { result ≡ conflicts_in sets.now (record { name = owner.now; kind = kind }) }
 {
-    match kind {
-        Kind::Alias => has_any_kind(sets, owner),
-        Kind::Address4 | Kind::Address6 | Kind::Service | Kind::Pointer | Kind::Exists => {
-            has_kind(sets, owner, Kind::Alias)
-        }
+    if kind == Kind::Alias {
+        return sets.has_data(owner);
     }
-}
-
-// Whether the owner has a set of some kind.
-fn has_any_kind(sets: &SetTable, owner: &Name) -> bool
-    ensures { result ≡ (has_kind_set sets.now owner.now Kind.Address4
-        || has_kind_set sets.now owner.now Kind.Address6
-        || has_kind_set sets.now owner.now Kind.Alias
-        || has_kind_set sets.now owner.now Kind.Service
-        || has_kind_set sets.now owner.now Kind.Pointer) }
-{
-    has_kind(sets, owner, Kind::Address4)
-        || has_kind(sets, owner, Kind::Address6)
-        || has_kind(sets, owner, Kind::Alias)
-        || has_kind(sets, owner, Kind::Service)
-        || has_kind(sets, owner, Kind::Pointer)
+    has_kind(sets, owner, Kind::Alias)
 }
 
 // Whether the owner has a set of this kind.

@@ -205,9 +205,23 @@ pub(crate) fn records_of(
 {
     let mut copies = Vec::new(alloc);
     for record in records {
-        if owners.contains(&record.owner) {
+        if is_among(owners, &record.owner) {
             copies.push(record.dup(alloc)?)?;
         }
     }
     Ok(copies)
+}
+
+// How many owners a name is compared with, so that it is not hashed.
+const MAX_COMPARED: usize = 4;
+
+// Whether the name is one of the owners. It is hashed only where there are more than a few.
+fn is_among(owners: &IndexSet<Name>, name: &Name) -> bool
+    ensures { result ≡ contains same_name owners.now name.now }
+{
+    let names = owners.as_slice();
+    if names.len() > MAX_COMPARED {
+        return owners.contains(name);
+    }
+    names.iter().any(|owner| *name == *owner)
 }

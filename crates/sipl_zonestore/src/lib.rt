@@ -24,7 +24,6 @@ mod owner_sets;
 mod patches;
 mod places;
 mod record_list;
-mod record_set;
 mod set_numbers;
 mod sets;
 mod store;

@@ -7,7 +7,7 @@ ghost use Rattle.sipl_names.specs.Labels.{Labels, is_within, same_name};
 ghost use Rattle.sipl_records.specs.declared.record.Key.{Key};
 ghost use Rattle.sipl_records.specs.Sets.{same_key, same_kind};
 ghost use Rattle.sipl_zonestore.specs.Content.{no_content, pushed, without, renumbered};
-ghost use Rattle.sipl_zonestore.specs.SetTable.{content_of, has_set};
+ghost use Rattle.sipl_zonestore.specs.SetTable.{content_of, has_data, has_set};
 
 use crate::owner_places::place_near;
 use crate::owner_sets::OwnerSets;
@@ -88,6 +88,16 @@ impl SetTable {
             ≡ (content_of self.now (record { name = owner.now; kind = kind })).number }
     {
         self.get(owner, kind).0
+    }
+
+    // Whether the owner has data of some kind. Constant time but for hashing. Does not allocate.
+    pub(crate) fn has_data(&self, owner: &Name) -> bool
+        ensures { result ≡ has_data self.now owner.now }
+    {
+        match self.owners.get(owner) {
+            Some(sets) => !sets.is_empty(),
+            None => false,
+        }
     }
 
     // Appends a datum to a set, which gets this number. Constant time but for hashing; an owner that is

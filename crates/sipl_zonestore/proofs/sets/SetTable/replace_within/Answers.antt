@@ -5,7 +5,7 @@ use Rattle.sipl_names.specs.Labels.{Labels, is_within}
 use Rattle.sipl_records.specs.declared.record.Key.{Key}
 use Rattle.sipl_zonestore.specs.Content.{no_content}
 use Rattle.sipl_zonestore.specs.SetTable.{OwnerTable, content_of}
-use Rattle.sipl_zonestore.specs.declared.owner_sets.OwnerSets.{OwnerSets}
+use Rattle.sipl_zonestore.specs.SetTable.{OwnerSets}
 use Rattle.sipl_zonestore.proofs.SetTables.{AreReplaced, content-replaced, data-replaced, left-filter}
 use Rattle.sipl_zonestore.proofs.sets.SetTable.replace_within.Goals as goal
 

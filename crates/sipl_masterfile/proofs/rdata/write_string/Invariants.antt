@@ -1,7 +1,7 @@
 use Rattle.std.proofs.Common.{◌≡◌, ◌++◌, take}
 use Rattle.std.specs.List.{flat_map}
 use Rattle.sipl_names.specs.NamePrint.{printed_octet}
-use Rattle.sipl_archive.proofs.record_text.write_string.Given as goal
+use Rattle.sipl_masterfile.proofs.rdata.write_string.Given as goal
 
 -- the octets so far
 abbrev pub invariant-loop-octet : goal.invariant-loop-octet
