@@ -164,8 +164,7 @@ impl Book {
         Ok(record_event(&mut self.journal, self.first, Event::Hold(*endpoint, ms)))
     }
 
-    /// Ends the hold of an endpoint. Returns the event's number. Linear in the number of held
-    /// endpoints.
+    /// Ends the hold of an endpoint. Returns the event's number. Linear in the number of held endpoints.
     ///
     /// The fault is the first one: a full journal (B3), an endpoint that is not held (O3).
     pub fn release(&mut self, endpoint: &Endpoint) -> Result<u64, BookFault>
@@ -182,8 +181,7 @@ impl Book {
     /// Sets the time, in milliseconds, and drops the holds that end at or before it. Returns the
     /// event's number. Linear in the number of held endpoints.
     ///
-    /// The fault is the first one: a full journal (B3), a time before the present one (O1), a time
-    /// after 2^52 (O2).
+    /// The fault is the first one: a full journal (B3), a time before the present (O1) or after 2^52 (O2).
     pub fn advance(&mut self, to: u64) -> Result<u64, BookFault>
         ensures { MovesBoard (Advance to) self.old self.new result }
     {
@@ -240,8 +238,7 @@ impl Book {
         }
     }
 
-    // Records a copy of the answer to a question, as `record_answer` does. The only error is an allocation
-    // failure; then nothing changes.
+    // Records a copy of an answer. The only error is an allocation failure; then nothing changes.
     fn record_copy(
         &mut self,
         question: &Question,
@@ -283,7 +280,7 @@ impl Book {
         };
         let board = self.board.get();
         let answer = entry.draw(self.alloc, draws, board, self.held)?;
-        if entry.wants_answer(board) {
+        if entry.wants_answer(draws, board) {
             self.cache
                 .keep_answer(question, draws, board, self.held, &answer);
         }
@@ -291,8 +288,8 @@ impl Book {
     }
 
     /// Has the entry of a question keep its answer, drawn for these random words and the holds as they
-    /// are, where [`Entry::wants_answer`] says so: then all answers of the entry share it until the entry
-    /// changes. Constant time but for hashing. Does not allocate.
+    /// are, where [`Entry::wants_answer`] says so: then all answers of the entry with this order of the
+    /// servers share it until the entry changes. Constant time but for hashing. Does not allocate.
     pub fn keep_answer(&mut self, question: &Question, draws: &Draws, answer: &Answer)
         requires { IsDrawnOf self.old.entries question.now draws.now
             self.old.board.holds self.old.held answer.now }
@@ -380,8 +377,7 @@ impl Book {
         self.cache.current() as u64
     }
 
-    /// How many entries are queued. No id is queued twice, or both queued and leased; what is queued is
-    /// outdated, and each outdated entry is queued or leased.
+    /// How many entries are queued: each outdated one that is not leased, once.
     pub fn queued(&self) -> u64
         ensures count { result ≡ length self.now.queue.queued }
         ensures queue { IsQueueOf self.now.entries self.now.queue }
@@ -408,8 +404,7 @@ impl Book {
         self.cache.dependents(key) as u64
     }
 
-    /// The events since the last page, in their order. They are legal from the base and lead to the
-    /// state as it is.
+    /// The events since the last page, in their order. They lead from the base to the state as it is.
     pub fn journal(&self) -> &[Event]
         ensures journal { result.now ≡ self.now.journal }
         ensures legal { IsLegal self.now.client self.now.held self.now.journal self.now.base }

@@ -1,17 +1,17 @@
-ghost use Rattle.std.specs.Prelude.{◌≡◌, true, [], ◌∷◌, map, IfOk};
+ghost use Rattle.std.specs.Prelude.{◌≡◌, ◌≢◌, ◌<◌, true, [], ◌∷◌, None, map, IfOk, IfSome};
 ghost use Rattle.std.specs.Arc.{arc_value};
 ghost use Rattle.sipl_plans.specs.Findings.{IsSound};
 ghost use Rattle.sipl_plans.specs.Plan.{draw};
 ghost use Rattle.sipl_plans.specs.Servers.{HasFewServers};
 ghost use Rattle.sipl_book.specs.Entries.{after_change, depends_on};
 ghost use Rattle.sipl_book.specs.Indexed.{HasKeysOf, needs};
-ghost use Rattle.sipl_book.specs.Kept.{HasOneAnswer};
+ghost use Rattle.sipl_book.specs.Kept.{IsDrawnFree, first_place};
 
 use sipl_evidence::{Evidence, Item};
 use sipl_outages::{Board, Held};
 use sipl_plans::{Answer, Finding, Layout, draw};
 use sipl_records::Key;
-use sipl_srv::Draws;
+use sipl_srv::{Draws, first_of_two};
 use sipl_uri::Question;
 use std::alloc::{AllocError, Global};
 use std::marker::Model;
@@ -25,8 +25,9 @@ pub struct Entry {
     id: u64,
     is_current: bool,
     finding: Finding,
-    // The answer where nothing is held, once it was drawn, if it is the same for all random words.
-    free: Option<Answer>,
+    // The answers where nothing is held, once they were drawn, of at most two servers: by the place of the
+    // server that is first.
+    free: [Option<Answer>; 2],
 }
 
 impl Model for Entry {
@@ -36,9 +37,9 @@ impl Model for Entry {
 
     ghost view = { λ e. record { id = e.id; is_current = e.is_current; found = e.finding } };
 
-    ghost use Rattle.sipl_book.specs.Kept.{IsKeptFor};
+    ghost use Rattle.sipl_book.specs.Kept.{AreKeptFor};
 
-    ghost invariant = { λ e. IsKeptFor e.finding.layout e.free };
+    ghost invariant = { λ e. AreKeptFor e.finding.layout e.free };
 }
 
 impl Entry {
@@ -50,7 +51,7 @@ impl Entry {
             id,
             is_current: true,
             finding,
-            free: None,
+            free: [None, None],
         }
     }
 
@@ -68,12 +69,12 @@ impl Entry {
         ensures { self.new ≡ record { id = self.old.id; is_current = true; found = finding } }
     {
         self.is_current = true;
-        self.free = None;
+        self.free = [None, None];
         mem::replace(&mut self.finding, finding)
     }
 
     // Keeps a copy of the answer that was drawn for these random words and holds by this policy, where
-    // it is the same for all words and nothing is held. Contracts do not see it.
+    // nothing is held and there are at most two servers. Contracts do not see it.
     pub(crate) fn keep_answer(
         &mut self,
         alloc: Global,
@@ -85,11 +86,14 @@ impl Entry {
         requires { answer.now ≡ draw self.old.found.layout board.now.holds draws.now held }
         ensures { self.new ≡ self.old }
     {
-        if !self.wants_answer(board) {
+        if !board.is_empty() {
             return;
         }
+        let Some(place) = first_place(self.layout(), draws) else {
+            return;
+        };
         if let Ok(copy) = answer.dup(alloc) {
-            self.free = Some(copy);
+            self.free[place] = Some(copy);
         }
     }
 
@@ -154,13 +158,16 @@ impl Entry {
         self.finding.layout()
     }
 
-    /// Whether the answer for these holds is worth keeping: nothing is held, it is the same for all random
-    /// words, and none is kept.
-    pub fn wants_answer(&self, board: &Board) -> bool
+    /// Whether the answer for these random words and holds is worth keeping: nothing is held, there are at
+    /// most two servers, and no answer is kept for their order.
+    pub fn wants_answer(&self, draws: &Draws, board: &Board) -> bool
         ensures free { result ≡ true → board.now.holds.ends ≡ [] }
-        ensures one { result ≡ true → HasOneAnswer self.now.found.layout }
+        ensures few { result ≡ true → first_place self.now.found.layout draws.now ≢ None }
     {
-        board.is_empty() && self.free.is_none() && has_one_server(self.layout())
+        match first_place(self.layout(), draws) {
+            Some(place) => board.is_empty() && self.free[place].is_none(),
+            None => false,
+        }
     }
 
     /// The answer of the route for these random words and holds, by a policy on held endpoints. An answer
@@ -176,10 +183,21 @@ impl Entry {
         ensures { IfOk result (λ answer. answer
             ≡ draw self.now.found.layout board.now.holds draws.now held) }
     {
-        match &self.free {
-            Some(answer) if board.is_empty() => answer.dup(alloc),
-            _ => draw(alloc, self.layout(), draws, board, held),
+        if board.is_empty()
+            && let Some(answer) = self.kept(draws)
+        {
+            return answer.dup(alloc);
         }
+        draw(alloc, self.layout(), draws, board, held)
+    }
+
+    // The answer that is kept for the order that these random words give.
+    fn kept(&self, draws: &Draws) -> Option<&Answer>
+        ensures { IfSome result
+            (λ answer. IsDrawnFree self.now.found.layout draws.now answer.now) }
+    {
+        let place = first_place(self.layout(), draws)?;
+        self.free[place].as_ref()
     }
 
     /// The record sets that the route looks at, in the order of reading: at most 80,648.
@@ -207,12 +225,17 @@ fn have_same_keys(items: &[Item], others: &[Item]) -> bool
     items.len() == others.len() && pairs.all(|(item, other)| item.key() == other.key())
 }
 
-// Whether the layout has one server, whose targets have one order.
-fn has_one_server(layout: &Layout) -> bool
-    ensures { result ≡ true → HasOneAnswer layout.now }
+// The place of the server that is first in the order of at most two; `None` for more.
+fn first_place(layout: &Layout, draws: &Draws) -> Option<usize>
+    ensures within { IfSome result (λ place. place < 2) }
+    ensures first { result ≡ first_place layout.now draws.now }
 {
-    match layout {
-        Layout::Servers(_, servers) => servers.len() == 1,
-        Layout::Refused(_) => false,
+    let Layout::Servers(_, servers) = layout else {
+        return None;
+    };
+    match servers.len() {
+        1 => Some(0),
+        2 => Some(first_of_two(servers.as_slice(), draws)),
+        _ => None,
     }
 }

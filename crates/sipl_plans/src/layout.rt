@@ -12,7 +12,7 @@ use crate::unique::unique_of;
 use sipl_choice::{Endpoint, Transport};
 use sipl_outages::{Board, Held};
 use sipl_records::{Address, Sequence};
-use sipl_srv::{Draws, Ranked, arrange};
+use sipl_srv::{Draws, Ranked, arrange, first_of_two};
 use std::alloc::{AllocError, Global};
 
 /// A server of a layout: that of an SRV record (RFC 2782), or the domain itself as the only one.
@@ -179,8 +179,8 @@ fn with_held_last(
     Ok(targets)
 }
 
-// The endpoints of the servers in the order that the draws give, each once, at its first place. A
-// single server has no order.
+// The endpoints of the servers in the order that the draws give, each once, at its first place. Only
+// the order of three servers or more is allocated.
 fn ordered_endpoints(
     alloc: Global,
     transport: Transport,
@@ -193,6 +193,10 @@ fn ordered_endpoints(
 {
     if servers.len() == 1 {
         return unique_endpoints(alloc, transport, servers, &[0]);
+    }
+    if servers.len() == 2 {
+        let first = first_of_two(servers, draws);
+        return unique_endpoints(alloc, transport, servers, &[first, 1 - first]);
     }
     let order = arrange(alloc, servers, draws)?;
     unique_endpoints(alloc, transport, servers, order.as_slice())

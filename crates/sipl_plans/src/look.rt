@@ -173,7 +173,7 @@ pub(crate) fn push_addresses(found: &mut Vec<Address>, set: &[Data]) -> Result<(
     for datum in set {
         match datum {
             Data::Address4(number) => found.push(Address::V4(*number))?,
-            Data::Address6(number) => found.push(Address::V6(*number))?,
+            Data::Address6(address) => found.push(Address::V6(address.number()))?,
             _ => {}
         }
     }

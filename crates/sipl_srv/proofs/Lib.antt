@@ -7,3 +7,4 @@ mod Offered
 mod Orders
 mod Shares
 mod Groups
+mod TwoPicks

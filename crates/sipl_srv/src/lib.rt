@@ -13,6 +13,6 @@ mod rank;
 pub use draws::Draws;
 pub use fault::DrawsFault;
 pub use offers::offer;
-pub use order::arrange;
+pub use order::{arrange, first_of_two};
 pub use pick::{Offer, Pick};
 pub use rank::Ranked;

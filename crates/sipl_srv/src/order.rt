@@ -1,4 +1,4 @@
-ghost use Rattle.std.specs.Prelude.{◌≡◌, ℕ, ◌*◌, ◌<◌, ◌≤◌, List, ◌∷◌, ◌++◌, length, map, option_map, slice_get, slice_index, IfOk, IfSome};
+ghost use Rattle.std.specs.Prelude.{◌≡◌, ℕ, ◌-◌, ◌*◌, ◌<◌, ◌≤◌, List, [], ◌∷◌, ◌++◌, length, map, option_map, slice_get, slice_index, IfOk, IfSome};
 ghost use Rattle.std.specs.List.{All, remove};
 ghost use Rattle.sipl_srv.specs.Order.{of_priority, of_least_priority, weightless, total_weight, first_reaching, chosen_place, AreDistinct, order_of, ordered};
 
@@ -29,6 +29,16 @@ pub fn arrange<T: Ranked>(
     let mut order: Vec<usize> = (0..picks.len()).collect(alloc)?;
     put_in_order(picks, &mut order, draws.words());
     Ok(Sequence::from_vec(order))
+}
+
+/// The place of the pick that is first in the order of two picks, as [`arrange`] puts them. The other one
+/// is second. Does not allocate.
+pub fn first_of_two<T: Ranked>(picks: &[T], draws: &Draws) -> usize
+    requires two_picks { length picks.now ≡ 2 }
+    ensures within { result < 2 }
+    ensures order { ordered (map T.rank picks.now) draws.now ≡ result ∷ (1 - result) ∷ [] }
+{
+    next_index(picks, &[0, 1], draws.words()[0])
 }
 
 // Puts places of picks in the order that the words give, one word for each.

@@ -157,8 +157,8 @@ pub fn other_intervals_double_up_to_t2()
     ensures sendings { (start ticks : ℕ) → 32000 ≤ ticks →
         moments_of sends_request (new_transaction Other false start)
         (every_millisecond start ticks)
-        ≡ moments_after start (500 ∷ 1500 ∷ 3500 ∷ 7500 ∷ 11500 ∷ 15500 ∷ 19500 ∷ 23500 ∷ 27500
-        ∷ 31500 ∷ []) }
+        ≡ moments_after start (500 ∷ 1500 ∷ 3500 ∷ 7500 ∷ 11500 ∷ 15500 ∷ 19500 ∷ 23500
+        ∷ 27500 ∷ 31500 ∷ []) }
     ensures timeout { (start ticks : ℕ) → 32000 ≤ ticks →
         moments_of reports_timeout (new_transaction Other false start)
         (every_millisecond start ticks)

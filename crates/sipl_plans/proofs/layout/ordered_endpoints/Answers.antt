@@ -14,3 +14,10 @@ returns-then-servers-eq1 c =
     subst (λ places. IfOk c.unique_endpoints.result (λ targets. targets.items ≡ unique same_endpoint (flat_map (endpoints_of c.args.transport) (filter_map (slice_get servers) places))))
     (sym (ordered-one (map source_rank servers) c.args.draws.now one))
     c.unique_endpoints.ensures
+
+pub returns-then-servers-eq2 : goal.returns-then-servers-eq2
+returns-then-servers-eq2 c =
+    let servers = c.args.servers.now in
+    subst (λ places. IfOk c.unique_endpoints-then-servers-eq2.result (λ targets. targets.items ≡ unique same_endpoint (flat_map (endpoints_of c.args.transport) (filter_map (slice_get servers) places))))
+    (sym c.first_of_two-first.ensures.order)
+    c.unique_endpoints-then-servers-eq2.ensures
