@@ -1,5 +1,5 @@
 -- What a line asks for, by its first word.
-use Rattle.std.proofs.Common.{◌≡◌, ◌≤◌, ◌==◌, ℕ, List, [], ◌∷◌, Bool, false, if◌then◌else◌, Option, None, Some, Bor, codes, nat_eq, length, refl, sym, ap, ◌∙◌, subst, inl, inr}
+use Rattle.std.proofs.Common.{◌≡◌, ◌≤◌, ◌==◌, ℕ, List, [], ◌∷◌, ◌++◌, Bool, false, if◌then◌else◌, Option, None, Some, Bor, codes, nat_eq, length, refl, sym, ap, ◌∙◌, subst, inl, inr}
 use Rattle.std.specs.Prelude.{IsUtf8, unwrap_or}
 use Rattle.std.specs.List.{slice_get}
 use Rattle.std.specs.Option.{option_copied, option_eq}
@@ -8,8 +8,8 @@ use Rattle.std.specs.Cmp.Lexicographic.{same_text}
 use lib.Pointwise.{pointwise}
 use lib.Utf8.{encode}
 use Rattle.sipl_names.specs.Labels.{Octets}
-use Rattle.sipl_records.specs.Fields.{fields_of, trim_start, after_field}
-use Rattle.sipl_lines.specs.Requests.{nothing, unknown, too_long, is_comment, command_request, fields_request, request_of}
+use Rattle.sipl_records.specs.Fields.{fields_of, trim_start, after_field, prepend_octet}
+use Rattle.sipl_lines.specs.Requests.{nothing, unknown, too_long, is_comment, command_request, fields_request, find_request, request_of}
 
 -- a line whose first octet is not # is no comment
 pub no_comment : (line : Octets) (first : Option (Bor ℕ)) (sign : Bor ℕ) → option_copied first ≡ slice_get line 0
@@ -29,6 +29,23 @@ first_word line word rest short plain fields after =
     ∙ ap (λ (b : Bool). if b then nothing else fields_request (fields_of line) line) plain
     ∙ ap (λ (f : List Octets). fields_request f line) fields
     ∙ ap (λ (r : Octets). command_request word (fields_of rest) (trim_start r)) (sym after)
+
+-- an octet before a space is a field of its own
+one_octet : (c : ℕ) (rest : Octets) (fields : List Octets) → prepend_octet c (32 ∷ rest) fields ≡ (c ∷ []) ∷ fields
+one_octet c rest [] = refl
+one_octet c rest (field ∷ fields) = refl
+
+find_fields : (rest : Octets) → fields_of (codes "find " ++ rest) ≡ codes "find" ∷ fields_of rest
+find_fields rest =
+    ap (λ (f : List Octets). prepend_octet 102 (105 ∷ 110 ∷ 100 ∷ 32 ∷ rest) (prepend_octet 105 (110 ∷ 100 ∷ 32 ∷ rest) (prepend_octet 110 (100 ∷ 32 ∷ rest) f)))
+    (one_octet 100 rest (fields_of rest))
+
+find_whole : (rest : Octets) → length (codes "find " ++ rest) ≤ 65536 → request_of (codes "find " ++ rest) ≡ find_request (fields_of rest)
+find_whole rest short = first_word (codes "find " ++ rest) (codes "find") (32 ∷ rest) short refl (find_fields rest) refl
+
+-- a line that begins with `find` and a space asks for what the fields after it do
+pub find_line : (line rest : Octets) → length line ≤ 65536 → line ≡ codes "find " ++ rest → request_of line ≡ find_request (fields_of rest)
+find_line line rest short is = ap request_of is ∙ find_whole rest (subst (λ (text : Octets). length text ≤ 65536) is short)
 
 -- a word that is no text is another than one that is
 other_word : (word text : Octets) → ¬ (IsUtf8 word) → IsUtf8 text → pointwise nat_eq word text ≡ false

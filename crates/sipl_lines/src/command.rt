@@ -1,5 +1,5 @@
 // What a line of a session asks for.
-ghost use Rattle.std.specs.Prelude.{◌≡◌, ◌≢◌, codes};
+ghost use Rattle.std.specs.Prelude.{◌≡◌};
 ghost use Rattle.sipl_records.specs.Fields.{fields_of, trim_start};
 ghost use Rattle.sipl_records.specs.Numbers.{number_of};
 ghost use Rattle.sipl_choice.specs.Transports.{transport_named};
@@ -70,6 +70,13 @@ pub(crate) fn read_command(line: &[u8]) -> Command<'_>
     if line.len() > MAX_LINE_LEN {
         return Command::TooLong;
     }
+    // `find`, which most lines are, is tried first.
+    if let Some(rest) = line.strip_prefix(b"find ".as_slice()) {
+        return match read_find(rest) {
+            Some(command) => command,
+            None => Command::Unknown,
+        };
+    }
     if line.first() == Some(&b'#') {
         return Command::Nothing;
     }
@@ -101,32 +108,20 @@ pub(crate) fn read_shared_line(line: &[u8]) -> ScriptLine<'_>
     }
 }
 
-// The command of a word, if there is one and the rest of its line is as the command takes it. `find`,
-// which most lines are, is tried first.
+// The command of a word, if there is one and the rest of its line is as the command takes it.
 fn read_fields<'a>(word: &[u8], rest: &'a [u8]) -> Option<Command<'a>>
     ensures { meaning_if_read result
         ≡ command_request word.now (fields_of rest.now) (trim_start rest.now) }
 {
-    if word == b"find".as_slice() {
-        return read_find(rest);
-    }
     let Ok(word) = str::from_utf8(word) else {
         return None;
     };
-    read_other_fields(word, rest)
-}
-
-// The same for each word but `find`.
-fn read_other_fields<'a>(word: &str, rest: &'a [u8]) -> Option<Command<'a>>
-    requires { word.now ≢ codes "find" }
-    ensures { meaning_if_read result
-        ≡ command_request word.now (fields_of rest.now) (trim_start rest.now) }
-{
     match word {
         "zone" => read_zone(rest),
         "drop" => read_drop(rest),
         "add" => read_add(trim_start(rest)),
         "del" => read_del(trim_start(rest)),
+        "find" => read_find(rest),
         "deps" => read_deps(rest),
         "repair" => read_repair(rest),
         "page" => read_page(rest),

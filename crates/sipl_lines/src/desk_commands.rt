@@ -138,8 +138,9 @@ pub(crate) fn find<D: Desk>(
         desk.old out.old result desk.new out.new }
     ensures allocates { OnErr result (IsTrue (has_scheme_and_octets uri.now)) }
 {
-    let question = match read_question(alloc, uri)? {
+    let question = match Uri::parse(alloc, uri) {
         Ok(question) => question,
+        Err(UriFault::Memory) => return Err(AllocError),
         Err(fault) => return write_refusal(out, fault.code()),
     };
     let draws = match draws {

@@ -42,7 +42,8 @@ pub(crate) fn hand(
     ensures front { OnOk result (pass.now.front ≤ next_event book.old) }
     ensures limit { OnOk result (next_event book.old ≤ 2 ^ 52) }
     ensures answered { IfOk result (λ answered. Records asked.value (next_event book.old) answered) }
-    ensures handed { IfOk result (λ answered. IsHanded asked.value.question asked.value.draws book.old book.new
+    ensures handed { IfOk result (λ answered.
+        IsHanded asked.value.question asked.value.draws book.old book.new
         (Ok (record { number = answered.told.number; answer = answered.told.answer }))) }
     ensures store { book.new.store ≡ book.old.store }
     ensures refused { IfErr result (λ fault. fault ≢ ServiceFault.Memory
@@ -189,7 +190,7 @@ fn tell_entry(
             return Err(ServiceFault::Book(BookFault::NotCurrent));
         }
     };
-    let wants_answer = entry.wants_answer(holds.get());
+    let wants_answer = entry.wants_answer(&asked.draws, holds.get());
     let told = Told::of(alloc, number, asked, entry, holds)?;
     if wants_answer {
         book.keep_answer(told.question(), told.draws(), told.answer());

@@ -54,7 +54,8 @@ impl LatestVersions {
         requires of_records { is_existence key.now ≡ false }
         requires latest_versions { AreLatestOf book.old.store (get same_key self.old.table) }
         ensures latest_versions { OnOk result (AreLatestOf book.old.store (get same_key self.new.table)) }
-        ensures empty { IfOk result (λ latest. (latest ≡ None) ↔ (number_in book.old.store key.now ≡ 0)) }
+        ensures empty { IfOk result (λ latest.
+            (latest ≡ None) ↔ (number_in book.old.store key.now ≡ 0)) }
         ensures number { IfOk result (λ latest.
             IfSome latest (λ latest. latest.number ≡ number_in book.old.store key.now)) }
         ensures kept { IfOk result (λ latest.

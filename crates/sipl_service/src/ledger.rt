@@ -144,7 +144,7 @@ impl Ledger {
     }
 
     /// Sets the maximum number of hand-overs whose space is kept for `take_space` once their receipts were
-    /// dropped; at first 0.
+    /// dropped; at first 0. Space for fewer than 32 receipts is not kept.
     pub fn keep_spaces(&mut self, max: usize)
         ensures { self.new ≡ self.old }
     {

@@ -53,6 +53,13 @@ impl Receipts {
         self.queue.len()
     }
 
+    // For how many there is space.
+    pub(crate) fn capacity(&self) -> usize
+        ensures { length self.now ≤ result }
+    {
+        self.queue.capacity()
+    }
+
     /// Whether there are none.
     pub fn is_empty(&self) -> bool
         ensures { result ≡ (length self.now == 0) }

@@ -62,7 +62,8 @@ impl Model for Shared {
       is_stopped = shared.is_stopped;
     } };
 
-    ghost invariant = { λ shared. AreLatestOf shared.book.store (latest_of shared.latest_versions.table.entries) };
+    ghost invariant = { λ shared.
+        AreLatestOf shared.book.store (latest_of shared.latest_versions.table.entries) };
 }
 
 impl Shared {

@@ -5,6 +5,9 @@ use crate::receipts::Receipts;
 use std::alloc::Global;
 use std::mem;
 
+// The least number of receipts for which the space is kept.
+const MIN_CAPACITY: usize = 32;
+
 // The space of hand-overs of which no receipt is left, for callers to go on in.
 #[derive(Drop)]
 pub(crate) struct Spaces {
@@ -34,11 +37,14 @@ impl Spaces {
         self.max = max;
     }
 
-    // Keeps that of a hand-over, where no receipt of it is left.
+    // Keeps that of a hand-over, where no receipt of it is left and it is for at least 32.
     pub fn keep(&mut self, handed: &mut Receipts)
         ensures { handed.new ≡ handed.old }
     {
-        if !handed.is_empty() || self.kept.len() >= self.max || self.kept.reserve(1).is_err() {
+        if !handed.is_empty() || handed.capacity() < MIN_CAPACITY || self.kept.len() >= self.max {
+            return;
+        }
+        if self.kept.reserve(1).is_err() {
             return;
         }
         let nothing = Receipts::from_vec(Vec::new(self.alloc));

@@ -12,8 +12,8 @@ use std::time::{Clock, Duration, Instant};
 // How long a claim waits for receipts that are on their way, in milliseconds.
 const PATIENCE: u64 = 5;
 
-// How long it is until a page is archived again that could not be, in milliseconds, and how many others may
-// wait meanwhile.
+// How long it is until a page is archived again that could not be, in milliseconds, and with how many others
+// that wait meanwhile the daemon ends.
 const AGAIN: u64 = 1_000;
 
 const MAX_WAITING: usize = 8;

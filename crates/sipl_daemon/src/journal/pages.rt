@@ -162,7 +162,7 @@ impl Pages {
         if handed.reserve(1).is_err() {
             return false;
         }
-        let receipts = match self.spaces.take_receipts(rt) {
+        let receipts = match self.spaces.take_receipts(rt, pass.receipts().len()) {
             Some(space) => pass.hand_over_into(space),
             None => pass.hand_over(),
         };

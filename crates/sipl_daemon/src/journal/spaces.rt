@@ -7,6 +7,9 @@ use std::sync::{Mutex, Wait};
 /// How many hand-overs' space is kept at most.
 pub(crate) const MAX_RECEIPTS: usize = 128;
 
+// How many receipts a caller hands over at least that goes on in space that is kept.
+const MIN_RECEIPTS: usize = 32;
+
 // How many journals' space is kept at most.
 const MAX_JOURNALS: usize = 3;
 
@@ -27,8 +30,12 @@ impl Spaces {
         }
     }
 
-    /// Takes the space of a hand-over out, if there is some.
-    pub(crate) fn take_receipts<R: Wait>(&self, rt: &R) -> Option<Receipts> {
+    /// Takes the space of a hand-over out, if there is some, for a caller that hands so many receipts over. For
+    /// one that hands few over there is none: the space for many would wait with each of its hand-overs.
+    pub(crate) fn take_receipts<R: Wait>(&self, rt: &R, count: usize) -> Option<Receipts> {
+        if count < MIN_RECEIPTS {
+            return None;
+        }
         self.receipts.lock(rt).pop()
     }
 
