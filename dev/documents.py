@@ -91,6 +91,7 @@ def words_of_values(kind: str, text: str) -> str:
     """What a value may be, as a cell: of numbers the least and the greatest, else the words without an example."""
     if kind == "Numbers":
         return " to ".join("2^40" if it == 1 << 40 else f"{it:,}" for it in (int(it, 0) for it in text.split(",")))
+    text = re.sub(r"\\\n\s*", "", text)
     words = re.sub(r'\\"(\w+)\\"', r'`"\1"`', re.findall(r'"((?:[^"\\]|\\.)*)"', text)[0])
     return re.sub(r",? as (?:\[?\\\").*", "", words)
 

@@ -3,6 +3,8 @@
 A list that lacks a word, or has one that is not there, is named. So is a list of types, families, reasons, commands
 or settings in a client or a tool that this file does not know. What users install alone has its own lists, and so has
 tools/plain, which is written by hand; other tools of the repository read clients/lists.json.
+
+Files of crates that spell a word of a list, or import all cases of its type, are in its row of docs/tables/places.txt.
 """
 
 from __future__ import annotations
@@ -116,6 +118,13 @@ ROWS = {"a record type": ["types", "kinds"], "a family of addresses": ["families
 SPELLED = {"a record type": "kinds", "a line of a session": "session"}
 OTHER_WORDS = {"crates/sipl_process/src/listeners.rt", "crates/sipl_lines/src/step_lines.rt",
                "crates/sipl_daemon/src/control.rt"}
+# By each row the files of the types whose cases are all named in definitions and proofs, which the row has.
+CASES = {"a record type": ["sipl_records/src/kind.rt", "sipl_records/src/data.rt"],
+         "a family of addresses": ["sipl_choice/src/families.rt"], "a transport": ["sipl_choice/src/transport.rt"],
+         "a reason for no targets": ["sipl_plans/src/answer.rt"],
+         "a directive of master files": ["sipl_masterfile/src/statement.rt"],
+         "a line of a session": ["sipl_lines/src/command.rt", "sipl_lines/specs/Requests.antt"],
+         "a line of a script": ["sipl_interleave/src/step.rt", "sipl_interleave/src/reply.rt"]}
 # Each kind of list that a client or a tool may have, by how many of its words one after another are one.
 SORTS = {"types": 4, "families": 3, "reasons": 3, "session": 5, "script": 5, "settings": 4, "settings of siplocd": 6}
 
@@ -260,10 +269,36 @@ def spelled() -> Iterator[str]:
                 yield f"places.txt, {what}: {file}:{line_of(file, word.start(1))} spells {word[1]} too"
 
 
+def cases_of(file: str) -> set[str]:
+    """The cases of the first type of a file."""
+    found = re.search(r"^pub(?:\(crate\))? (?:enum|data) .*?(?=\n\}$|\n\n)", text_of(f"crates/{file}"), re.S | re.M)
+    return set(re.findall(r"^(?: {4}| {2})(\w+)(?:[(,]| [{:])", found[0] if found else "", re.M))
+
+
+def imported(file: str) -> list[set[str]]:
+    """The words of each import of a file of definitions or proofs."""
+    return [set(re.findall(r"(?:^|, )(\w+)", it)) for it in re.findall(r"^use \S+\.\{(.*?)\}", text_of(file), re.M)]
+
+
+def by_cases() -> Iterator[str]:
+    """The definitions and proofs that import all cases of a type, and that its row lacks."""
+    rows = {what: documents.files_in(text) for what, text in documents.rows_of("places")["places"][1:]}
+    files = [str(it.relative_to(TOP)) for part in ("specs", "proofs")
+             for it in sorted((TOP / "crates").glob(f"*/{part}/**/*.antt"))]
+    for what, types in CASES.items():
+        for cases in map(cases_of, types):
+            if not cases:
+                yield f"dev/list_places.py: {what}: its type has no cases where they are looked for"
+            for file in files:
+                if file not in rows[what] and any(cases <= words for words in imported(file)):
+                    yield f"places.txt, {what}: {file} names all cases too"
+
+
 def faults() -> Iterator[str]:
     """All that is wrong."""
     yield from incomplete_rows()
     yield from spelled()
+    yield from by_cases()
     for place in [*CLIENTS, *TOOLS, *CRATES]:
         yield from compared(place)
     yield from wrong_counts()
