@@ -310,7 +310,7 @@ def ends_where_a_change_is_not_written(checks: Checks, folder: pathlib.Path) -> 
 
 @test
 def reports_no_change_as_kept_after_a_trim_that_failed(checks: Checks, folder: pathlib.Path) -> None:
-    # (more than a megabyte, so that a state is written at the next page)
+    # (more than a megabyte, so that a page is turned after it, and a state written)
     text = "x" * 255
     zone = "zone example.com. 1401\na A 192.0.2.1" + "".join(f'\nn{n} NAPTR 1 1 "{text}" "{text}" "{text}" .'
                                                              for n in range(1_400))
@@ -320,11 +320,10 @@ def reports_no_change_as_kept_after_a_trim_that_failed(checks: Checks, folder: p
         syncs, settings = Syncs(inner), f'state = "{inner}/state"'
         with started(checks, inner, settings, environment=syncs.environment) as daemon, \
                 Client(daemon.address) as client, Client(daemon.address) as other:
-            checks.equal(client.ask(zone), ["ok zone 1401 0 0 1401"], "zone")
             checks.equal(other.ask("repair"), ["ok repair"], "before")
             # The folder is synced before and after the state is moved there, and then after the changes were.
             syncs.watch_folder(3, error if name == "folder" else 0)
-            daemon.tell("page")
+            checks.equal(client.ask(zone), ["ok zone 1401 0 0 1401"], "zone")
             checks.expect(until(syncs.has_begun), f"{name}: no trim")
             client.send("add late.example.com. A 192.0.2.3\n")
             other.send("hold udp 192.0.2.9 5060 1000000\n")
@@ -353,9 +352,8 @@ def a_state_takes_its_place_after_the_name_of_its_log_is_kept(checks: Checks, fo
     with started(checks, folder, f'state = "{state}"', environment=syncs.environment) as daemon, \
             Client(daemon.address) as client:
         before = state.read_bytes()
-        checks.equal(client.ask(zone), ["ok zone 1401 0 0 1401"], "zone")
         syncs.watch_folder(1, 0)
-        daemon.tell("page")
+        checks.equal(client.ask(zone), ["ok zone 1401 0 0 1401"], "zone")
         checks.expect(until(syncs.has_begun), "no state is written")
         there = (folder / "state.new").exists(), (folder / "state.log.new").exists()
         checks.equal((there, state.read_bytes() == before), ((True, True), True), "while the folder is synced")
