@@ -9,7 +9,7 @@ use Rattle.sipl_names.specs.Labels.{Labels, is_within, same_name}
 use Rattle.sipl_names.proofs.Public.{same_name_decides}
 use Rattle.sipl_records.specs.Sets.{conflicts, has_same_kind, same_record, shares_set}
 use Rattle.sipl_records.specs.declared.data.Data.{Data}
-use Rattle.sipl_records.specs.declared.data.Data.TheVariants.{Address4, Address6, Alias, Service, Pointer, Bare}
+use Rattle.sipl_records.specs.declared.data.Data.TheVariants.{Bare}
 use Rattle.sipl_records.specs.declared.record.Record.{Record}
 use Rattle.sipl_records.proofs.Public.{same_record-sym}
 use Rattle.sipl_masterfile.specs.Entries.{Entry}
@@ -78,12 +78,8 @@ apart-aliases (r ∷ records) pairs = (
 
 -- a record shares a set with itself, or with none
 own-kind : (value : Data) → (has_same_kind value value ≡ true) ⊎ ((other : Data) → has_same_kind value other ≡ false)
-own-kind (Address4 n) = inl refl
-own-kind (Address6 n) = inl refl
-own-kind (Alias name) = inl refl
-own-kind (Service priority weight port target) = inl refl
-own-kind (Pointer order preference flags services regexp replacement) = inl refl
 own-kind Bare = inr (λ other. refl)
+own-kind _ = inl refl
 
 and-false : (a : Bool) → (a && false) ≡ false
 and-false true = refl

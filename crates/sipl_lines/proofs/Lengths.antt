@@ -6,7 +6,7 @@ use Rattle.sipl_names.specs.NamePrint.{printed_label, text_of}
 use Rattle.sipl_names.proofs.Public.{length-printed_label}
 use Rattle.sipl_records.specs.Kinds.{text_of_kind}
 use Rattle.sipl_records.specs.declared.kind.Kind.{Kind}
-use Rattle.sipl_records.specs.declared.kind.Kind.TheVariants.{Address4, Address6, Alias, Service, Pointer, Exists}
+use Rattle.sipl_records.specs.declared.kind.Kind.TheVariants.{Exists}
 
 length-printed : (labels : Labels) → length (flat_map printed_label labels) ≤ 4 * length (wire_of labels)
 length-printed [] = omega arith
@@ -19,9 +19,5 @@ name_text_is_short [] = omega arith
 name_text_is_short (label ∷ labels) = omega (arith, length-printed (label ∷ labels))
 
 pub kind_text_is_short : (kind : Kind) → length (text_of_kind kind) ≤ 6
-kind_text_is_short Address4 = omega arith
-kind_text_is_short Address6 = omega arith
-kind_text_is_short Alias = omega arith
-kind_text_is_short Service = omega arith
-kind_text_is_short Pointer = omega arith
 kind_text_is_short Exists = omega arith
+kind_text_is_short _ = omega arith

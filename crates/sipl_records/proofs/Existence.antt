@@ -5,9 +5,9 @@ use Rattle.std.proofs.lemmas.List.Folds.{Any-from_list_any, list_any-append, lis
 use Rattle.sipl_names.specs.Labels.{Labels, is_within, same_name}
 use Rattle.sipl_names.proofs.Public.{is_within-suffix}
 use Rattle.sipl_records.specs.declared.data.Data.{Data}
-use Rattle.sipl_records.specs.declared.data.Data.TheVariants.{Address4 as data_address4, Address6 as data_address6, Alias as data_alias, Service as data_service, Pointer as data_pointer, Bare as data_bare}
+use Rattle.sipl_records.specs.declared.data.Data.TheVariants.{Bare as data_bare}
 use Rattle.sipl_records.specs.declared.kind.Kind.{Kind}
-use Rattle.sipl_records.specs.declared.kind.Kind.TheVariants.{Address4, Address6, Alias, Service, Pointer, Exists}
+use Rattle.sipl_records.specs.declared.kind.Kind.TheVariants.{Exists}
 use Rattle.sipl_records.specs.declared.record.Record.{Record}
 use Rattle.sipl_records.specs.declared.record.Key.{Key}
 use Rattle.sipl_records.specs.Sets.{data_of, exists_in, existence_of, has_key, has_kind, has_own_kind, is_existence, key_of, same_kind, set_of}
@@ -28,17 +28,9 @@ both_true false b h = let never : false ≡ true = h in cc
 
 -- no data are in a set of existence
 pub own_kind-no_existence : (kind : Kind) (value : Data) → has_own_kind kind value ≡ true → same_kind kind Exists ≡ false
-own_kind-no_existence Address4 value own = refl
-own_kind-no_existence Address6 value own = refl
-own_kind-no_existence Alias value own = refl
-own_kind-no_existence Service value own = refl
-own_kind-no_existence Pointer value own = refl
-own_kind-no_existence Exists (data_address4 n) own = let never : false ≡ true = own in cc
-own_kind-no_existence Exists (data_address6 n) own = let never : false ≡ true = own in cc
-own_kind-no_existence Exists (data_alias name) own = let never : false ≡ true = own in cc
-own_kind-no_existence Exists (data_service p w port n) own = let never : false ≡ true = own in cc
-own_kind-no_existence Exists (data_pointer o p f s r n) own = let never : false ≡ true = own in cc
 own_kind-no_existence Exists data_bare own = let never : false ≡ true = own in cc
+own_kind-no_existence Exists _ own = let never : false ≡ true = own in cc
+own_kind-no_existence _ value own = refl
 
 pub has_key-no_existence : (key : Key) (r : Record) → has_key key r ≡ true → is_existence key ≡ false
 has_key-no_existence key r has =
@@ -111,9 +103,5 @@ set_of-filter_owner p records key other = rw other (data_of-filter_owner p recor
 
 -- the data of a set are of its key's kind
 pub has_kind-own : (kind : Kind) (value : Data) → has_own_kind kind value ≡ true → has_kind kind value ≡ true
-has_kind-own kind (data_address4 n) own = own
-has_kind-own kind (data_address6 n) own = own
-has_kind-own kind (data_alias name) own = own
-has_kind-own kind (data_service p w port n) own = own
-has_kind-own kind (data_pointer o p f s r n) own = own
 has_kind-own kind data_bare own = let never : false ≡ true = own in cc
+has_kind-own kind _ own = own

@@ -1,5 +1,5 @@
 -- Equal keys, and the key of a record's set.
-use Rattle.std.proofs.Common.{◌≡◌, ℕ, zero, suc, nat_eq, Bool, true, false, ◌&&◌, List, Option, None, Some, option_map, refl, ap, sym, ◌∙◌, length}
+use Rattle.std.proofs.Common.{◌≡◌, ℕ, nat_eq, Bool, true, false, ◌&&◌, List, Option, None, Some, option_map, refl, ap, sym, ◌∙◌, length}
 use Rattle.std.specs.Option.{option_map_or}
 use Rattle.std.specs.List.{count_by, filter}
 use Rattle.std.specs.Bool.{Decides}
@@ -9,7 +9,7 @@ use Rattle.std.proofs.lemmas.Bool.Decides.{Decides-and, Decides-like, same_from_
 use Rattle.sipl_names.specs.Labels.{same_name}
 use Rattle.sipl_names.proofs.Public.{same_name_decides}
 use Rattle.sipl_records.specs.declared.kind.Kind.{Kind}
-use Rattle.sipl_records.specs.declared.kind.Kind.TheVariants.{Address4, Address6, Alias, Service, Pointer, Exists}
+use Rattle.sipl_records.specs.declared.kind.Kind.TheVariants.{Exists}
 use Rattle.sipl_records.specs.declared.record.Record.{Record}
 use Rattle.sipl_records.specs.declared.record.Key.{Key}
 use Rattle.sipl_records.specs.Kinds.{index_of}
@@ -20,36 +20,20 @@ use Rattle.std.proofs.lemmas.List.{length-map}
 use Rattle.std.proofs.lemmas.List.Sums.{length-filter}
 
 pub same_kind-Decides : (a b : Kind) → Decides (same_kind a b) (a ≡ b)
-same_kind-Decides Address4 Address4 = (λ _. refl, λ _. refl)
-same_kind-Decides Address6 Address6 = (λ _. refl, λ _. refl)
-same_kind-Decides Alias Alias = (λ _. refl, λ _. refl)
-same_kind-Decides Service Service = (λ _. refl, λ _. refl)
-same_kind-Decides Pointer Pointer = (λ _. refl, λ _. refl)
 same_kind-Decides Exists Exists = (λ _. refl, λ _. refl)
+same_kind-Decides _ Exists = (λ h. cc, λ h. cc)
 same_kind-Decides _ _ = (λ h. cc, λ h. cc)
 
--- the kind of a place among all; the last one, of those that are none
-abbrev kind_at : ℕ → Kind
-kind_at zero = Address4
-kind_at (suc zero) = Address6
-kind_at (suc (suc zero)) = Alias
-kind_at (suc (suc (suc zero))) = Service
-kind_at (suc (suc (suc (suc zero)))) = Pointer
-kind_at _ = Exists
+same_index : (a b : Kind) → index_of a ≡ index_of b → a ≡ b
+same_index Exists Exists e = refl
+same_index _ Exists e = cc
+same_index _ _ e = cc
 
-kind_at-index : (kind : Kind) → kind_at (index_of kind) ≡ kind
-kind_at-index Address4 = refl
-kind_at-index Address6 = refl
-kind_at-index Alias = refl
-kind_at-index Service = refl
-kind_at-index Pointer = refl
-kind_at-index Exists = refl
-
--- two kinds are one where their places are
+-- two kinds are one where their places among all are
 pub same_kind-index : (a b : Kind) → same_kind a b ≡ nat_eq (index_of a) (index_of b)
 same_kind-index a b =
     same_from_decides (same_kind a b) (nat_eq (index_of a) (index_of b)) (same_kind-Decides a b)
-    (Decides-like (nat_eq (index_of a) (index_of b)) (λ e. sym (kind_at-index a) ∙ (ap kind_at e ∙ kind_at-index b)) (λ e. ap index_of e) (unsigned_Decides (index_of a) (index_of b)))
+    (Decides-like (nat_eq (index_of a) (index_of b)) (λ e. same_index a b e) (λ e. ap index_of e) (unsigned_Decides (index_of a) (index_of b)))
 
 pub same_key-Decides : (a b : Key) → Decides (same_key a b) (a ≡ b)
 same_key-Decides a b =

@@ -6,7 +6,7 @@ use Rattle.std.proofs.lemmas.List.{take_more, length_push}
 use Rattle.std.proofs.lemmas.List.Elements.{filter-append, filter_map-append}
 use Rattle.sipl_names.specs.Labels.{Labels}
 use Rattle.sipl_records.specs.declared.data.Data.{Data}
-use Rattle.sipl_records.specs.declared.data.Data.TheVariants.{Address4, Address6, Alias, Service, Pointer, Bare}
+use Rattle.sipl_records.specs.declared.data.Data.TheVariants.{Service}
 use Rattle.sipl_srv.specs.declared.pick.Pick.{Pick}
 use Rattle.sipl_srv.specs.declared.pick.Offer.TheVariants.{Nothing, Closed, Picks}
 use Rattle.sipl_srv.specs.Offers.{pick_of, is_unavailable, offer_of_picks, offer_of}
@@ -86,12 +86,8 @@ offer-nothing (pick ∷ picks) none = absurd (omega arith)
 
 -- data of another type have no pick
 pub pick_of-other : (value : Data) → ((priority weight port : ℕ) → (target : Labels) → value ≡ Service priority weight port target → ⊥) → pick_of value ≡ None
-pick_of-other (Address4 n) other = refl
-pick_of-other (Address6 n) other = refl
-pick_of-other (Alias name) other = refl
 pick_of-other (Service priority weight port target) other = absurd (other priority weight port target refl)
-pick_of-other (Pointer order preference flags services regexp replacement) other = refl
-pick_of-other Bare other = refl
+pick_of-other _ other = refl
 
 -- a pick that is available is among those of the set
 available-more : (found : Option Pick) (picks : List Pick) → 0 < length (available picks) → 0 < length (available (cons_option found picks))
