@@ -1,7 +1,10 @@
 -- How long the lines of events are.
-use Rattle.std.proofs.Common.{ℕ, ◌+◌, ◌*◌, ◌/◌, ◌%◌, ◌^◌, ◌<◌, ◌≤◌, Bool, true, false, ◌&&◌, List, [], ◌∷◌, ◌++◌, length, length-append, map, arith, nat_le, codes, decimal}
+use Rattle.std.proofs.Common.{◌≡◌, ℕ, ◌+◌, ◌*◌, ◌/◌, ◌%◌, ◌^◌, ◌<◌, ◌≤◌, Bool, true, false, ◌&&◌, List, [], ◌∷◌, ◌++◌, length, length-append, map, arith, nat_le, codes, decimal}
 use Rattle.std.specs.Prelude.{if◌then◌else◌}
-use Rattle.std.specs.List.{AllByRecursion}
+use Rattle.std.specs.List.{AllByRecursion, list_all}
+use Rattle.std.proofs.lemmas.Bool.{and_parts}
+use Rattle.std.proofs.lemmas.Bool.Decides.{nat_tests}
+use Rattle.std.proofs.lemmas.List.{length-map}
 use Rattle.std.proofs.lemmas.Fmt.{length-decimal-le}
 use Rattle.sipl_names.specs.Labels.{Octets, Labels, IsName}
 use Rattle.sipl_names.specs.NamePrint.{is_special, printed_octet, text_of}
@@ -9,11 +12,10 @@ use Rattle.sipl_names.proofs.Public.{length-text_of}
 use Rattle.sipl_records.specs.Addresses.{IsAddress, text_of_address}
 use Rattle.sipl_records.specs.declared.address.Address.{Address}
 use Rattle.sipl_records.specs.declared.address.Address.TheVariants.{V4, V6}
-use Rattle.sipl_records.specs.declared.data.Data.{Data}
-use Rattle.sipl_records.specs.declared.data.Data.TheVariants.{Address4, Address6, Alias, Service, Pointer, Bare}
 use Rattle.sipl_records.specs.declared.record.Record.{Record}
 use Rattle.sipl_records.proofs.Public.{length-text_of_address}
-use Rattle.sipl_masterfile.specs.RecordPrint.{IsData, IsRecord, IsString, printed_string, record_text, spaced, spelled, written_data, written_record}
+use Rattle.sipl_masterfile.specs.RecordPrint.{IsRecord, IsString, printed_string, record_text, spaced, spelled, written_data, written_record}
+use Rattle.sipl_masterfile.proofs.PrintedFields.{OfEachField, each_field, few_fields, is_mnemonic, spelled-all}
 use Rattle.sipl_choice.specs.Transports.{transport_text}
 use Rattle.sipl_choice.specs.declared.endpoint.Endpoint.{Endpoint}
 use Rattle.sipl_choice.specs.declared.transport.Transport.{Transport}
@@ -64,23 +66,34 @@ short-string octets is =
     let most = is.short in
     omega (arith, most, length-string octets, length-append (codes "\"" ++ printed_string octets) (codes "\""), length-append (codes "\"") (printed_string octets))
 
-data-short : (value : Data) → IsData value → AreShort (map spelled (written_data value)) × (length (map spelled (written_data value)) ≤ 7)
-data-short (Address4 n) is = ((omega arith, (short-address (V4 n) is, tt)), omega arith)
-data-short (Address6 n) is = ((omega arith, (short-address (V6 n) is, tt)), omega arith)
-data-short (Alias name) is = ((omega arith, (short-name name is, tt)), omega arith)
-data-short (Service priority weight port target) is =
-    ((omega arith, (short-number priority is.priority_fits, (short-number weight is.weight_fits, (short-number port is.port_fits, (short-name target is.target_is_name, tt))))), omega arith)
-data-short (Pointer order preference flags services regexp replacement) is =
-    ((omega arith, (short-number order is.order_fits, (short-number preference is.preference_fits, (short-string flags is.flags_are_string, (short-string services is.services_are_string, (short-string regexp is.regexp_is_string, (short-name replacement is.replacement_is_name, tt))))))), omega arith)
-data-short Bare is = ((omega arith, tt), omega arith)
+short-mnemonic : (text : Octets) → is_mnemonic text ≡ true → length text ≤ 1022
+short-mnemonic text is =
+    let both = and_parts (list_all (λ c. nat_le 65 c && nat_le c 90) text && nat_le 1 (length text)) (nat_le (length text) 5) is in
+    few (length text) both.1
+  where
+    few : (n : ℕ) → nat_le n 5 ≡ true → n ≤ 1022
+    few n is = grind (arith, nat_tests)
+
+short-field : OfEachField (λ w. length (spelled w) ≤ 1022)
+short-field = record {
+  mnemonic = short-mnemonic;
+  address4 = λ n small. short-address (V4 n) small;
+  address6 = λ n small. short-address (V6 n) small;
+  name = short-name;
+  number = short-number;
+  string = short-string;
+}
 
 -- the text of a record has at most 8,184 octets
 pub length-record : (r : Record) → IsRecord r → length (record_text r) ≤ 8184
 length-record r is =
-    let fields = data-short r.value is.value in
-    let many = fields.1 in
-    let spaced-all = length-spaced (map spelled (written_record r)) (short-name r.owner is.owner, fields.0) in
-    omega (arith, many, spaced-all)
+    let short = spelled-all (λ field. length field ≤ 1022) (written_data r.value) (each_field (λ w. length (spelled w) ≤ 1022) short-field r.value is.value) in
+    omega (
+      arith,
+      length-map (written_data r.value) spelled,
+      few_fields r.value,
+      length-spaced (map spelled (written_record r)) (short-name r.owner is.owner, short),
+    )
 
 -- endpoints
 

@@ -1,7 +1,7 @@
 -- The octets of printed numbers, names, addresses, questions and records.
-use Rattle.std.proofs.Common.{◌≡◌, ℕ, ◌+◌, ◌/◌, ◌%◌, ◌^◌, ◌<◌, ◌≤◌, Bool, true, false, ◌&&◌, List, [], ◌∷◌, ◌++◌, map, Option, None, Some, refl, sym, ap, ◌∙◌, arith, nat_le, nat_lt, cond, codes, decimal}
+use Rattle.std.proofs.Common.{◌≡◌, ℕ, ◌+◌, ◌/◌, ◌%◌, ◌^◌, ◌<◌, ◌≤◌, Bool, true, false, ◌&&◌, List, [], ◌∷◌, ◌++◌, map, Option, None, Some, length, refl, sym, ap, ◌∙◌, arith, nat_le, nat_lt, cond, codes, decimal}
 use Rattle.std.specs.Char.{digit_char, is_ascii_digit}
-use Rattle.std.specs.List.{AllByRecursion, flat_map}
+use Rattle.std.specs.List.{AllByRecursion, flat_map, list_all}
 use Rattle.std.specs.Net.Text.{groups_text, hex, leading_zero_digits}
 use Rattle.std.specs.Str.{all_ascii_digits}
 use Rattle.std.specs.Str.Parse.{digits_value}
@@ -15,10 +15,10 @@ use Rattle.sipl_records.specs.Addresses.{IsAddress, text_of_address}
 use Rattle.sipl_records.specs.declared.address.Address.{Address}
 use Rattle.sipl_records.specs.declared.address.Address.TheVariants.{V4, V6}
 use Rattle.sipl_records.specs.declared.data.Data.{Data}
-use Rattle.sipl_records.specs.declared.data.Data.TheVariants.{Address4, Address6, Alias, Service, Pointer, Bare}
 use Rattle.sipl_records.specs.declared.record.Record.{Record}
 use Rattle.sipl_records.specs.Ipv6.{groups_of_number}
 use Rattle.sipl_masterfile.specs.RecordPrint.{IsData, IsRecord, printed_string, record_text, spaced, spelled, written_data, written_record}
+use Rattle.sipl_masterfile.proofs.PrintedFields.{OfEachField, each_field, is_mnemonic, spelled-all}
 use Rattle.sipl_choice.specs.Transports.{transport_text}
 use Rattle.sipl_choice.specs.declared.transport.Transport.{Transport}
 use Rattle.sipl_choice.specs.declared.transport.Transport.TheVariants.{Udp, Tcp, Tls, Sctp}
@@ -164,15 +164,32 @@ string-field : (octets : Octets) → From 32 (codes "\"" ++ printed_string octet
 string-field octets =
     (omega arith, from-append 32 (printed_string octets) (codes "\"") (from-flat_map 32 printed_octet (λ c. from-printed 32 c (omega arith)) octets) (omega arith, tt))
 
+mnemonic-field : (text : Octets) → is_mnemonic text ≡ true → From 32 text
+mnemonic-field text is =
+    let all = and_parts (list_all (λ c. nat_le 65 c && nat_le c 90) text && nat_le 1 (length text)) (nat_le (length text) 5) is in
+    let letters = and_parts (list_all (λ c. nat_le 65 c && nat_le c 90) text) (nat_le 1 (length text)) all.0 in
+    from-letters text letters.0
+  where
+    from-letters : (text : Octets) → list_all (λ c. nat_le 65 c && nat_le c 90) text ≡ true → From 32 text
+    from-letters [] all = tt
+    from-letters (c ∷ text) all =
+        let both = and_parts (nat_le 65 c && nat_le c 90) (list_all (λ k. nat_le 65 k && nat_le k 90) text) all in
+        let least : 32 ≤ c = let is = both.0 in grind (arith, nat_tests) in
+        (least, from-letters text both.1)
+
+data-field : OfEachField (λ w. From 32 (spelled w))
+data-field = record {
+  mnemonic = mnemonic-field;
+  address4 = λ n small. address-field (V4 n) small;
+  address6 = λ n small. address-field (V6 n) small;
+  name = λ labels is. name-field labels;
+  number = number-field;
+  string = λ octets is. string-field octets;
+}
+
 data-fields : (value : Data) → IsData value → AllByRecursion (From 32) (map spelled (written_data value))
-data-fields (Address4 n) is = (from-test 32 (codes "A") refl, (address-field (V4 n) is, tt))
-data-fields (Address6 n) is = (from-test 32 (codes "AAAA") refl, (address-field (V6 n) is, tt))
-data-fields (Alias name) is = (from-test 32 (codes "CNAME") refl, (name-field name, tt))
-data-fields (Service priority weight port target) is =
-    (from-test 32 (codes "SRV") refl, (number-field priority is.priority_fits, (number-field weight is.weight_fits, (number-field port is.port_fits, (name-field target, tt)))))
-data-fields (Pointer order preference flags services regexp replacement) is =
-    (from-test 32 (codes "NAPTR") refl, (number-field order is.order_fits, (number-field preference is.preference_fits, (string-field flags, (string-field services, (string-field regexp, (name-field replacement, tt)))))))
-data-fields Bare is = (from-test 32 (codes "NULL") refl, tt)
+data-fields value is =
+    spelled-all (From 32) (written_data value) (each_field (λ w. From 32 (spelled w)) data-field value is)
 
 pub from-record : (r : Record) → IsRecord r → From 32 (record_text r)
 from-record r is = from-spaced (map spelled (written_record r)) (name-field r.owner, data-fields r.value is.value)

@@ -1,11 +1,12 @@
 -- The text of a printed record is one entry.
 use Rattle.std.proofs.Common.{◌≡◌, ℕ, zero, suc, ◌+◌, ◌/◌, ◌%◌, ◌^◌, ◌<◌, Bool, true, false, not, ◌&&◌, ◌||◌, List, [], ◌∷◌, ◌++◌, Option, None, Some, Ok, length, map, drop, refl, sym, ap, ◌∙◌, arith, append-nil, append_assoc, length-append, nat_eq, nat_le, ◌==◌, codes, decimal, flat_map, option_map, if◌then◌else◌}
 use Rattle.std.proofs.Math.Seq.{take-append_seam, drop-append_seam}
+use Rattle.std.proofs.lemmas.Bool.{and_parts}
 use Rattle.std.proofs.lemmas.Bool.Decides.{nat_tests}
 use Rattle.std.proofs.lemmas.Fmt.{digits_decimal}
 use Rattle.std.proofs.lemmas.Str.Parse.{numerals_by_value, tells_all_ascii_digits}
 use Rattle.std.specs.Char.{is_ascii_digit, digit_char}
-use Rattle.std.specs.List.{AllByRecursion}
+use Rattle.std.specs.List.{AllByRecursion, list_all}
 use Rattle.std.specs.Net.Text.{hex, groups_text, leading_zero_digits}
 use Rattle.std.specs.Str.{all_ascii_digits}
 use Rattle.sipl_names.specs.Labels.{Octets, Labels, IsLabel, IsName}
@@ -13,14 +14,12 @@ use Rattle.sipl_names.specs.NamePrint.{is_special, printed_octet, printed_label,
 use Rattle.sipl_records.specs.Ipv4.{number_of_text, text_of_number}
 use Rattle.sipl_records.specs.Ipv6.{address6_of_text, text_of_address6, groups_of_number}
 use Rattle.sipl_records.specs.Numbers.{number_of}
-use Rattle.sipl_records.specs.declared.data.Data.{Data}
-use Rattle.sipl_records.specs.declared.data.Data.TheVariants.{Address4, Address6, Alias, Service, Pointer, Bare}
 use Rattle.sipl_records.specs.declared.record.Record.{Record}
 use Rattle.sipl_records.proofs.Public.{number_of_text-text_of, address6_of_text-text_of}
 use Rattle.sipl_masterfile.specs.Tokens.{blank, field, ends_field, field_len, quoted_len, tokens}
 use Rattle.sipl_masterfile.specs.Entries.{Begun, begins_blank, prepend_entry, with_field, entries_from, entries_of}
-use Rattle.sipl_masterfile.specs.RecordPrint.{IsString, IsData, IsRecord, Written, plain, quoted, unquoted, spelled, printed_string, written_data, spaced, record_text, entry_of_record}
-use Rattle.sipl_masterfile.proofs.PrintedFields.{number_of-decimal}
+use Rattle.sipl_masterfile.specs.RecordPrint.{IsString, IsRecord, Written, plain, quoted, unquoted, spelled, printed_string, written_data, spaced, record_text, entry_of_record}
+use Rattle.sipl_masterfile.proofs.PrintedFields.{OfEachField, each_field, is_mnemonic, number_of-decimal}
 use Rattle.sipl_masterfile.proofs.Scanning.{begins-field, begins-quoted}
 
 -- octets that neither end a field nor a quoted one, where an escape may have begun; it has ended
@@ -141,10 +140,6 @@ tokens-written (quoted text) rest is follows =
 
 -- the entries of written fields
 
-abbrev AllWritten : List Written → Type 0
-AllWritten [] = Unit {0}
-AllWritten (w ∷ ws) = IsWritten w × AllWritten ws
-
 -- an entry with more fields
 abbrev with_fields : Begun → List Octets → Begun
 with_fields begun fields = record begun { fields = begun.fields ++ fields }
@@ -163,17 +158,17 @@ tokens-spaced w v ws is =
 tokens-last : (w : Written) → IsWritten w → tokens 0 (spelled w) ≡ field (unquoted w) ∷ []
 tokens-last w is = ap (tokens 0) (sym (append-nil (spelled w))) ∙ tokens-written w [] is tt
 
-entries-spaced : (ws : List Written) (begun : Begun) (line : ℕ) → AllWritten ws → entries_from begun 0 line (tokens 0 (spaced (map spelled ws))) ≡ prepend_entry (with_fields begun (map unquoted ws)) []
+entries-spaced : (ws : List Written) (begun : Begun) (line : ℕ) → AllByRecursion IsWritten ws → entries_from begun 0 line (tokens 0 (spaced (map spelled ws))) ≡ prepend_entry (with_fields begun (map unquoted ws)) []
 entries-spaced [] begun line is = ap (λ b. prepend_entry b []) (sym (with_fields-nil begun))
 entries-spaced (w ∷ []) begun line is = ap (entries_from begun 0 line) (tokens-last w is.0)
 entries-spaced (w ∷ v ∷ ws) begun line is =
     ap (entries_from begun 0 line) (tokens-spaced w v ws is.0) ∙ entries-spaced (v ∷ ws) (with_field begun (unquoted w)) line is.1 ∙ ap (λ b. prepend_entry b []) (with_fields-cons begun (unquoted w) (map unquoted (v ∷ ws)))
 
-first_is_field : (w : Written) (ws : List Written) → AllWritten (w ∷ ws) → begins_blank (tokens 0 (spaced (map spelled (w ∷ ws)))) ≡ false
+first_is_field : (w : Written) (ws : List Written) → AllByRecursion IsWritten (w ∷ ws) → begins_blank (tokens 0 (spaced (map spelled (w ∷ ws)))) ≡ false
 first_is_field w [] is = ap begins_blank (tokens-last w is.0)
 first_is_field w (v ∷ ws) is = ap begins_blank (tokens-spaced w v ws is.0)
 
-entries_of-spaced : (w : Written) (ws : List Written) → AllWritten (w ∷ ws) → entries_of (spaced (map spelled (w ∷ ws))) ≡ record { line = 1; is_indented = false; content = Ok (map unquoted (w ∷ ws)) } ∷ []
+entries_of-spaced : (w : Written) (ws : List Written) → AllByRecursion IsWritten (w ∷ ws) → entries_of (spaced (map spelled (w ∷ ws))) ≡ record { line = 1; is_indented = false; content = Ok (map unquoted (w ∷ ws)) } ∷ []
 entries_of-spaced w ws is =
     entries-spaced (w ∷ ws) (record { line = 1; is_indented = begins_blank (tokens 0 (spaced (map spelled (w ∷ ws)))); fields = [] }) 1 is ∙ ap (λ b. record { line = 1; is_indented = b; content = Ok (map unquoted (w ∷ ws)) } ∷ []) (first_is_field w ws is)
 
@@ -224,20 +219,27 @@ text_of_plain : (labels : Labels) → IsName labels → is_plain false (text_of 
 text_of_plain [] is = refl
 text_of_plain (label ∷ labels) is = printed_labels_plain (label ∷ labels) is.each
 
--- numbers and addresses are plain
+-- mnemonics, numbers and addresses are plain
+
+letter_plain : (c : ℕ) → (nat_le 65 c && nat_le c 90) ≡ true → is_plain false (c ∷ []) ≡ true
+letter_plain c is = grind (arith, nat_tests)
+
+letters_plain : (text : Octets) → list_all (λ c. nat_le 65 c && nat_le c 90) text ≡ true → is_plain false text ≡ true
+letters_plain [] all = refl
+letters_plain (c ∷ text) all =
+    let both = and_parts (nat_le 65 c && nat_le c 90) (list_all (λ k. nat_le 65 k && nat_le k 90) text) all in
+    plain_both (c ∷ []) text (letter_plain c both.0) (letters_plain text both.1)
+
+nonempty : (n : ℕ) → nat_le 1 n ≡ true → 0 < n
+nonempty n is = grind (arith, nat_tests)
 
 digit_is_plain : (c : ℕ) → is_ascii_digit c ≡ true → is_plain false (c ∷ []) ≡ true
 digit_is_plain c is = grind (arith, nat_tests)
 
-first_digit : (a b : Bool) → (a && b) ≡ true → (a ≡ true) × (b ≡ true)
-first_digit true true is = (refl, refl)
-first_digit true false is = absurd cc
-first_digit false b is = absurd cc
-
 digits_plain : (digits : Octets) → all_ascii_digits digits ≡ true → is_plain false digits ≡ true
 digits_plain [] all = refl
 digits_plain (c ∷ digits) all =
-    let both = first_digit (is_ascii_digit c) (all_ascii_digits digits) all in
+    let both = and_parts (is_ascii_digit c) (all_ascii_digits digits) all in
     plain_both (c ∷ []) digits (digit_is_plain c both.0) (digits_plain digits both.1)
 
 decimal_plain : (n : ℕ) → n < 2 ^ 64 → is_plain false (decimal n) ≡ true
@@ -320,18 +322,22 @@ written_number n small =
 written_string : (octets : Octets) → IsString octets → IsWritten (quoted (printed_string octets))
 written_string octets is = printed_string_plain octets is.each
 
-data_written : (value : Data) → IsData value → AllWritten (written_data value)
-data_written (Address4 n) is =
-    (refl, (written_read number_of_text (text_of_number n) n (number_of_text-text_of n is) refl (text_of_number_plain n is), tt))
-data_written (Address6 n) is =
-    (refl, (written_read address6_of_text (text_of_address6 n) n (address6_of_text-text_of n is) refl (text_of_address6_plain n is), tt))
-data_written (Alias name) is = (refl, (written_name name is, tt))
-data_written (Service priority weight port target) is =
-    (refl, (written_number priority is.priority_fits, (written_number weight is.weight_fits, (written_number port is.port_fits, (written_name target is.target_is_name, tt)))))
-data_written (Pointer order preference flags services regexp replacement) is =
-    (refl, (written_number order is.order_fits, (written_number preference is.preference_fits, (written_string flags is.flags_are_string, (written_string services is.services_are_string, (written_string regexp is.regexp_is_string, (written_name replacement is.replacement_is_name, tt)))))))
-data_written Bare is = (refl, tt)
+written_mnemonic : (text : Octets) → is_mnemonic text ≡ true → IsWritten (plain text)
+written_mnemonic text is =
+    let all = and_parts (list_all (λ c. nat_le 65 c && nat_le c 90) text && nat_le 1 (length text)) (nat_le (length text) 5) is in
+    let some = and_parts (list_all (λ c. nat_le 65 c && nat_le c 90) text) (nat_le 1 (length text)) all.0 in
+    written_text text (nonempty (length text) some.1) (letters_plain text some.0)
+
+written_field : OfEachField IsWritten
+written_field = record {
+  mnemonic = written_mnemonic;
+  address4 = λ n small. written_read number_of_text (text_of_number n) n (number_of_text-text_of n small) refl (text_of_number_plain n small);
+  address6 = λ n small. written_read address6_of_text (text_of_address6 n) n (address6_of_text-text_of n small) refl (text_of_address6_plain n small);
+  name = written_name;
+  number = written_number;
+  string = written_string;
+}
 
 pub entries_of-record_text : (r : Record) → IsRecord r → entries_of (record_text r) ≡ entry_of_record r ∷ []
 entries_of-record_text r is =
-    entries_of-spaced (plain (text_of r.owner)) (written_data r.value) (written_name r.owner is.owner, data_written r.value is.value)
+    entries_of-spaced (plain (text_of r.owner)) (written_data r.value) (written_name r.owner is.owner, each_field IsWritten written_field r.value is.value)

@@ -1,5 +1,6 @@
 -- The fields of a printed record state it.
 use Rattle.std.proofs.Common.{◌≡◌, ℕ, ◌^◌, ◌<◌, ◌≤◌, Bool, true, false, ◌&&◌, List, [], ◌∷◌, ◌++◌, Option, None, Some, Result, Ok, Err, length, map, refl, sym, ap, ◌∙◌, arith, append-nil, append_assoc, nat_eq, nat_le, nat_lt, codes, decimal, if◌then◌else◌}
+use Rattle.std.specs.List.{AllByRecursion, list_all}
 use Rattle.std.specs.Option.{ok_or}
 use Rattle.std.specs.Str.{all_ascii_digits}
 use Rattle.std.specs.Str.Parse.{digits_value}
@@ -20,7 +21,7 @@ use Rattle.sipl_records.specs.declared.data.Data.TheVariants.{Address4, Address6
 use Rattle.sipl_records.specs.declared.record.Record.{Record}
 use Rattle.sipl_records.proofs.Public.{number_of_text-text_of, address6_of_text-text_of}
 use Rattle.sipl_masterfile.specs.Readers.{◌>>=◌, prepend, octets_of_symbols, string_within_limit, string_of, name_in, number_in, address4_in, address6_in}
-use Rattle.sipl_masterfile.specs.RecordPrint.{IsString, IsService, IsPointer, IsData, IsRecord, printed_string, written_data, unquoted, record_fields}
+use Rattle.sipl_masterfile.specs.RecordPrint.{IsString, IsService, IsPointer, IsData, IsRecord, Written, plain, quoted, printed_string, written_data, spelled, unquoted, record_fields}
 use Rattle.sipl_masterfile.specs.Rdata.{data_of}
 use Rattle.sipl_masterfile.specs.Statements.{is_directive, from_type, directive_or_record, statement_of}
 use Rattle.sipl_masterfile.specs.declared.fault.ZoneCause.{ZoneCause}
@@ -112,6 +113,41 @@ text_of-no_dollar ([] ∷ labels) = refl
 text_of-no_dollar ((c ∷ label) ∷ labels) =
     rw (append_assoc, append_assoc) (not_dollar (nat_le 33 c && nat_le c 126) (is_special c) c _ _ refl)
 
+-- the fields of data
+
+-- capital letters, as a mnemonic has: one to five
+abbrev pub is_mnemonic : Octets → Bool
+is_mnemonic text = list_all (λ c. nat_le 65 c && nat_le c 90) text && nat_le 1 (length text) && nat_le (length text) 5
+
+-- what holds for the field of a mnemonic, an address, a name, a number and a string
+pub record OfEachField (P : Written → Type 0) : Type 0 where
+  pub mnemonic : (text : Octets) → is_mnemonic text ≡ true → P (plain text)
+  pub address4 : (n : ℕ) → n < 2 ^ 32 → P (plain (text_of_number n))
+  pub address6 : (n : ℕ) → n < 2 ^ 128 → P (plain (text_of_address6 n))
+  pub name : (labels : Labels) → IsName labels → P (plain (text_of labels))
+  pub number : (n : ℕ) → n < 65536 → P (plain (decimal n))
+  pub string : (octets : Octets) → IsString octets → P (quoted (printed_string octets))
+
+-- holds for each field in which data are written
+pub each_field : (P : Written → Type 0) → OfEachField P → (value : Data) → IsData value → AllByRecursion P (written_data value)
+each_field P of (Address4 n) is = (of.mnemonic (codes "A") refl, (of.address4 n is, tt))
+each_field P of (Address6 n) is = (of.mnemonic (codes "AAAA") refl, (of.address6 n is, tt))
+each_field P of (Alias name) is = (of.mnemonic (codes "CNAME") refl, (of.name name is, tt))
+each_field P of (Service priority weight port target) is =
+    (of.mnemonic (codes "SRV") refl, (of.number priority is.priority_fits, (of.number weight is.weight_fits, (of.number port is.port_fits, (of.name target is.target_is_name, tt)))))
+each_field P of (Pointer order preference flags services regexp replacement) is =
+    (of.mnemonic (codes "NAPTR") refl, (of.number order is.order_fits, (of.number preference is.preference_fits, (of.string flags is.flags_are_string, (of.string services is.services_are_string, (of.string regexp is.regexp_is_string, (of.name replacement is.replacement_is_name, tt)))))))
+each_field P of Bare is = (of.mnemonic (codes "NULL") refl, tt)
+
+pub spelled-all : (P : Octets → Type 0) (fields : List Written) → AllByRecursion (λ w. P (spelled w)) fields → AllByRecursion P (map spelled fields)
+spelled-all P [] all = tt
+spelled-all P (w ∷ fields) all = (all.0, spelled-all P fields all.1)
+
+-- data are written in at most seven fields
+pub few_fields : (value : Data) → length (written_data value) ≤ 7
+few_fields Bare = omega arith
+few_fields _ = omega arith
+
 -- the data of each kind
 
 data_of-address4 : (n : ℕ) (origin : Labels) → n < 2 ^ 32 → data_of origin (map unquoted (written_data (Address4 n))) ≡ Ok (Address4 n)
@@ -147,15 +183,11 @@ data_of-written Bare origin is = refl
 
 -- neither ttl nor class is printed
 from_type-written : (value : Data) → from_type (map unquoted (written_data value)) ≡ Ok (map unquoted (written_data value))
-from_type-written (Address4 n) = refl
-from_type-written (Address6 n) = refl
-from_type-written (Alias name) = refl
-from_type-written (Service priority weight port target) = refl
-from_type-written (Pointer order preference flags services regexp replacement) = refl
 from_type-written Bare = refl
+from_type-written _ = refl
 
 states : (field : Octets) (fields : List Octets) (name origin : Labels) (value : Data) → is_directive field ≡ false → name_in origin field ≡ Ok name → from_type fields ≡ Ok fields → data_of origin fields ≡ Ok value → directive_or_record origin (field ∷ fields) ≡ Ok (statement.Record (record { owner = name; value = value }))
-states field fields name origin value plain named typed is = rw (plain, named, typed, is) refl
+states field fields name origin value undirected named typed is = rw (undirected, named, typed, is) refl
 
 pub statement_of-record_fields : (r : Record) (origin : Labels) (owner : Option Labels) → IsRecord r → statement_of false (record_fields r) origin owner ≡ Ok (statement.Record r)
 statement_of-record_fields r origin owner is =

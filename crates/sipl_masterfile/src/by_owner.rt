@@ -136,13 +136,7 @@ fn replace_end(ends: &mut IndexMap<u32, usize>, code: u32, end: usize) -> Result
         ≡ (if nat_eq code other then Some end else get nat_eq ends.old other)) }
     ensures unchanged { OnErr result (IsUnchanged ends.old ends.new) }
 {
-    match ends.get_mut(&code) {
-        Some(last) => Ok(std::mem::replace(last, end)),
-        None => {
-            ends.insert(code, end)?;
-            Ok(0)
-        }
-    }
+    Ok(ends.insert(code, end)?.unwrap_or(0))
 }
 
 impl Comparison {
