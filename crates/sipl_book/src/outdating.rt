@@ -10,7 +10,8 @@ use crate::indexed::Indexed;
 use sipl_records::Key;
 use sipl_repair::Queue;
 
-// Makes the current entries that depend on one of these keys outdated, and appends their ids.
+// Makes the current entries that depend on one of these keys outdated, and appends their ids. Where
+// nothing is kept no key is looked at.
 pub(crate) fn outdate_dependents(
     entries: &mut Indexed,
     keys: &[Key],
@@ -28,6 +29,9 @@ pub(crate) fn outdate_dependents(
     ensures candidates { vec_capacity candidates.new ≡ vec_capacity candidates.old }
     ensures capacity { vec_capacity ids.new ≡ vec_capacity ids.old }
 {
+    if entries.entries().len() == 0 {
+        return;
+    }
     for key in keys {
         entries.write_candidates(key, candidates);
         outdate_candidates(entries, key, candidates.as_slice(), ids);
