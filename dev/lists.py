@@ -44,6 +44,11 @@ def words(file: str, pattern: str, *within: str) -> list[str]:
     return [*dict.fromkeys(re.findall(pattern, text, re.M))]
 
 
+def command_words(file: str, within: str) -> list[str]:
+    """The words of the session's commands that a file of the crates names in what a pattern finds."""
+    return [it.lower() for it in words(file, r"\bCommandWord::(\w+)", within)]
+
+
 def forms(cell: str) -> list[str]:
     """What a cell of lines.txt has in backticks."""
     return re.findall(r"`([^`]+)`", cell)
@@ -70,7 +75,7 @@ def commands(name: str) -> dict[str, dict[str, str]]:
 
 def numbers_after(word: str) -> Optional[int]:
     """How many numbers follow `ok WORD` in the crates, where nothing else does."""
-    texts = re.findall(rf'b"ok {word}"(?:, &\[([^\]]*)\])', text_of("sipl_lines/src"))
+    texts = re.findall(rf"CommandWord::{word.capitalize()},\s+&\[([^\]]*)\]", text_of("sipl_lines/src"))
     counts = {len([it for it in text.split(",") if it.strip()]) for text in texts}
     return counts.pop() if len(counts) == 1 else None
 
@@ -121,8 +126,8 @@ def read() -> dict[str, Any]:
         "reasons": words("sipl_plans/src/answer.rt", r'Reason::\w+ => "(\w+)"'),
         "session": commands("session"), "script": commands("script"), "control": commands("control"),
         "steps": {form.split(" ")[0]: form for it in documents.rows_of("lines")["steps"][1:] for form in forms(it[0])},
-        "changes": words("sipl_archive/src/items.rt", r'b"(\w+)"', r"fn is_edit\((.*?^}.*?)^}"),
-        "not_asking": words("sipl_input/src/asking.rt", r'b"(\w+)"', r"fn is_refused\((.*?)^}"),
+        "changes": command_words("sipl_archive/src/items.rt", r"fn is_edit\((.*?^}.*?)^}"),
+        "not_asking": command_words("sipl_input/src/asking.rt", r"const REFUSED_WORDS(.*?)\];"),
         "settings": {"siploc": shared, "siplocd": sorted({*own, *shared} - {"sessions"})},
         "codes": codes(), "refusals": refusals(),
     }

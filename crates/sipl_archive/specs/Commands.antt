@@ -5,6 +5,8 @@ use lib.Pointwise.{pointwise}
 use Rattle.sipl_names.specs.Labels.{Octets}
 use Rattle.sipl_records.specs.Fields.{fields_of}
 use Rattle.sipl_records.specs.Numbers.{number_of}
+use Rattle.sipl_lines.specs.CommandWords.{is_word}
+use Rattle.sipl_lines.specs.declared.command_word.CommandWord.TheVariants.{Zone, Drop, Add, Del, Find, Hold, Release, Clock}
 use Rattle.sipl_lines.specs.Lines.{without_cr}
 
 -- the first line of a text, without its LF
@@ -31,7 +33,7 @@ zone_count _ = None
 abbrev pub taken_by_fields : List Octets → ℕ
 taken_by_fields [] = 0
 taken_by_fields (word ∷ others) =
-    if pointwise nat_eq word (codes "zone") then unwrap_or (zone_count others) 0 else 0
+    if is_word Zone word then unwrap_or (zone_count others) 0 else 0
 
 -- the same of a line without its LF: one of more than 65,536 octets is no command
 abbrev pub taken_by : Octets → ℕ
@@ -54,15 +56,11 @@ first_passes test (word ∷ others) = test word
 
 -- whether a word is that of an edit
 abbrev pub edits : Octets → Bool
-edits word =
-    pointwise nat_eq word (codes "zone") || pointwise nat_eq word (codes "drop")
-    || pointwise nat_eq word (codes "add") || pointwise nat_eq word (codes "del")
+edits word = is_word Zone word || is_word Drop word || is_word Add word || is_word Del word
 
 -- whether a word is that of a hold, a release, or a move of the clock
 abbrev pub moves : Octets → Bool
-moves word =
-    pointwise nat_eq word (codes "hold") || pointwise nat_eq word (codes "release")
-    || pointwise nat_eq word (codes "clock")
+moves word = is_word Hold word || is_word Release word || is_word Clock word
 
 -- whether a word begins the line that ends a reply
 abbrev pub ends : Octets → Bool
@@ -76,7 +74,7 @@ is_change line = first_passes (λ word. edits word || moves word) (fields_of lin
 
 -- whether a line is that of a question
 abbrev pub is_find : Octets → Bool
-is_find line = first_passes (λ word. pointwise nat_eq word (codes "find")) (fields_of line)
+is_find line = first_passes (λ word. is_word Find word) (fields_of line)
 
 -- whether a line is the last one of a reply
 abbrev pub is_end : Octets → Bool

@@ -14,6 +14,8 @@ use Rattle.sipl_book.specs.declared.edit.Edit.{Edit}
 use Rattle.sipl_book.specs.declared.edit.Edit.TheVariants as edit
 use Rattle.sipl_book.specs.declared.event.Event.{Event}
 use Rattle.sipl_book.specs.declared.event.Event.TheVariants as event
+use Rattle.sipl_lines.specs.CommandWords.{text_of_word, word_start}
+use Rattle.sipl_lines.specs.declared.command_word.CommandWord.TheVariants as command
 use Rattle.sipl_lines.specs.ReplyText.{answer_text, number_field, word_field}
 use Rattle.sipl_archive.specs.Sorting.{listed, zones_of}
 
@@ -23,7 +25,7 @@ record_line r = record_text r ++ 10 ∷ []
 
 -- `zone APEX COUNT`
 abbrev pub zone_line : Labels → ℕ → Octets
-zone_line apex count = codes "zone " ++ text_of apex ++ number_field count ++ 10 ∷ []
+zone_line apex count = word_start command.Zone ++ text_of apex ++ number_field count ++ 10 ∷ []
 
 -- the lines that load a zone
 abbrev pub zone_lines : Labels → List Record → Octets
@@ -36,9 +38,9 @@ zones_lines zones = flat_map (λ zone. zone_lines zone.0 zone.1) zones
 -- the lines of an edit
 abbrev pub edit_lines : Edit → Octets
 edit_lines (edit.Load zone) = zone_lines zone.apex zone.records
-edit_lines (edit.Unload apex) = codes "drop " ++ text_of apex ++ 10 ∷ []
-edit_lines (edit.Add r) = codes "add " ++ record_line r
-edit_lines (edit.Remove r) = codes "del " ++ record_line r
+edit_lines (edit.Unload apex) = word_start command.Drop ++ text_of apex ++ 10 ∷ []
+edit_lines (edit.Add r) = word_start command.Add ++ record_line r
+edit_lines (edit.Remove r) = word_start command.Del ++ record_line r
 
 -- `TRANSPORT ADDRESS PORT`
 abbrev pub endpoint_text : Endpoint → Octets
@@ -48,7 +50,7 @@ endpoint_text endpoint =
 
 -- `hold TRANSPORT ADDRESS PORT MS`
 abbrev pub hold_line : Endpoint → ℕ → Octets
-hold_line endpoint ms = codes "hold " ++ endpoint_text endpoint ++ number_field ms ++ 10 ∷ []
+hold_line endpoint ms = word_start command.Hold ++ endpoint_text endpoint ++ number_field ms ++ 10 ∷ []
 
 -- a line for each hold, with what is left of it at a time
 abbrev pub hold_lines : ℕ → List (Endpoint × ℕ) → Octets
@@ -56,11 +58,11 @@ hold_lines now holds = flat_map (λ hold. hold_line hold.0 (hold.1 - now)) holds
 
 -- `release TRANSPORT ADDRESS PORT`
 abbrev pub release_line : Endpoint → Octets
-release_line endpoint = codes "release " ++ endpoint_text endpoint ++ 10 ∷ []
+release_line endpoint = word_start command.Release ++ endpoint_text endpoint ++ 10 ∷ []
 
 -- `clock MS`
 abbrev pub clock_line : ℕ → Octets
-clock_line to = codes "clock" ++ number_field to ++ 10 ∷ []
+clock_line to = text_of_word command.Clock ++ number_field to ++ 10 ∷ []
 
 -- a checkpoint: where the changes after a state begin
 abbrev pub checkpoint_line : ℕ → Octets
@@ -95,4 +97,4 @@ event_lines (event.Hold endpoint ms) = hold_line endpoint ms
 event_lines (event.Release endpoint) = release_line endpoint
 event_lines (event.Advance to) = clock_line to
 event_lines (event.Answer question words answer) =
-    codes "find " ++ question_text question ++ words_field words ++ 10 ∷ answer_text answer
+    word_start command.Find ++ question_text question ++ words_field words ++ 10 ∷ answer_text answer

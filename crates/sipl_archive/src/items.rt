@@ -9,7 +9,7 @@ ghost use Rattle.sipl_archive.specs.Commands.{taken_by, zone_count};
 ghost use Rattle.sipl_archive.specs.Replies.{AreReplies};
 
 use memchr::{memchr, memmem};
-use sipl_lines::{Desk, MAX_LINE_LEN, MAX_ZONE_LINES, Tapped, serve};
+use sipl_lines::{CommandWord, Desk, MAX_LINE_LEN, MAX_ZONE_LINES, Tapped, serve};
 use sipl_records::{next_field, read_number};
 use std::alloc::Global;
 
@@ -57,7 +57,7 @@ pub fn taken_by(line: &[u8]) -> u64
         return 0;
     }
     match next_field(line) {
-        Some((b"zone", rest)) => zone_lines(rest).unwrap_or(0),
+        Some((word, rest)) if CommandWord::Zone.is(word) => zone_lines(rest).unwrap_or(0),
         _ => 0,
     }
 }
@@ -100,14 +100,17 @@ pub(crate) fn is_change(line: &[u8]) -> bool
 fn is_edit(word: &[u8]) -> bool
     ensures { result ≡ edits word.now }
 {
-    matches!(word, b"zone" | b"drop" | b"add" | b"del")
+    CommandWord::Zone.is(word)
+        || CommandWord::Drop.is(word)
+        || CommandWord::Add.is(word)
+        || CommandWord::Del.is(word)
 }
 
 // Whether a word is that of a hold, a release, or a move of the clock.
 fn is_move(word: &[u8]) -> bool
     ensures { result ≡ moves word.now }
 {
-    word == b"hold".as_slice() || word == b"release".as_slice() || word == b"clock".as_slice()
+    CommandWord::Hold.is(word) || CommandWord::Release.is(word) || CommandWord::Clock.is(word)
 }
 
 /// Whether a line is that of a question.
@@ -115,7 +118,7 @@ pub(crate) fn is_find(line: &[u8]) -> bool
     ensures { result ≡ is_find line.now }
 {
     match next_field(line) {
-        Some((word, _)) => matches!(word, b"find"),
+        Some((word, _)) => CommandWord::Find.is(word),
         None => false,
     }
 }

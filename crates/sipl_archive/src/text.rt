@@ -1,5 +1,7 @@
 //! Changes and records as the lines of a session.
-ghost use Rattle.std.specs.Prelude.{◌≡◌, [], ◌∷◌, ◌++◌, length, codes, decimal, IfOk, OnOk};
+ghost use Rattle.std.specs.Prelude.{◌≡◌, [], ◌∷◌, ◌++◌, length, decimal, IfOk, OnOk};
+ghost use Rattle.sipl_lines.specs.CommandWords.{ok_words};
+ghost use Rattle.sipl_lines.specs.declared.command_word.CommandWord.TheVariants as command;
 ghost use Rattle.sipl_lines.specs.ReplyText.{answer_text, counts_line, number_field};
 ghost use Rattle.sipl_lines.specs.ReplyText.{target_line, target_lines};
 ghost use Rattle.sipl_archive.specs.Text.{clock_line, edit_lines, endpoint_text, event_lines};
@@ -9,6 +11,7 @@ ghost use Rattle.sipl_archive.specs.Text.{zone_lines};
 
 use sipl_book::{Edit, Event, SharedDraws};
 use sipl_choice::Endpoint;
+use sipl_lines::CommandWord;
 use sipl_masterfile::write_record;
 use sipl_names::Name;
 use sipl_outages::Board;
@@ -35,7 +38,7 @@ pub(crate) fn write_event(alloc: Global, out: &mut Vec<u8>, event: &Event) -> Re
         Event::Release(endpoint) => write_release(alloc, out, endpoint),
         Event::Advance(to) => write_clock(alloc, out, *to),
         Event::Answer(question, draws, answer) => {
-            out.extend_from_slice(b"find ")?;
+            out.extend_from_slice(CommandWord::Find.start())?;
             question.write(out)?;
             write_draws(alloc, out, draws)?;
             out.push(b'\n')?;
@@ -85,14 +88,14 @@ fn write_answer(alloc: Global, out: &mut Vec<u8>, answer: &Answer) -> Result<(),
 // Appends a line for each target, and the line that counts them.
 fn write_targets(alloc: Global, out: &mut Vec<u8>, targets: &[Endpoint]) -> Result<(), AllocError>
     ensures { OnOk result (out.new.items ≡ out.old.items ++ (target_lines 1 targets.now
-        ++ counts_line (codes "ok find") (length targets.now ∷ []))) }
+        ++ counts_line (ok_words command.Find) (length targets.now ∷ []))) }
 {
     let mut number = 1;
     for target in targets {
         write_target(alloc, out, number, target)?;
         number += 1;
     }
-    out.extend_from_slice(b"ok find")?;
+    out.extend_from_slice(CommandWord::Find.ok_words())?;
     write_number(alloc, out, targets.len() as u64)?;
     out.push(b'\n')?;
     Ok(())
@@ -121,17 +124,17 @@ fn write_edit(alloc: Global, out: &mut Vec<u8>, edit: &Edit) -> Result<(), Alloc
     match edit {
         Edit::Load(zone) => write_zone(alloc, out, zone.apex(), zone.records()),
         Edit::Unload(apex) => {
-            out.extend_from_slice(b"drop ")?;
+            out.extend_from_slice(CommandWord::Drop.start())?;
             apex.write(out)?;
             out.push(b'\n')?;
             Ok(())
         }
         Edit::Add(record) => {
-            out.extend_from_slice(b"add ")?;
+            out.extend_from_slice(CommandWord::Add.start())?;
             write_record_line(alloc, out, record)
         }
         Edit::Remove(record) => {
-            out.extend_from_slice(b"del ")?;
+            out.extend_from_slice(CommandWord::Del.start())?;
             write_record_line(alloc, out, record)
         }
     }
@@ -175,7 +178,7 @@ pub(crate) fn write_zone_line(
 ) -> Result<(), AllocError>
     ensures { OnOk result (out.new.items ≡ out.old.items ++ zone_line apex.now count) }
 {
-    out.extend_from_slice(b"zone ")?;
+    out.extend_from_slice(CommandWord::Zone.start())?;
     apex.write(out)?;
     write_number(alloc, out, count as u64)?;
     out.push(b'\n')?;
@@ -259,7 +262,7 @@ pub(crate) fn write_head(
 fn write_clock(alloc: Global, out: &mut Vec<u8>, to: u64) -> Result<(), AllocError>
     ensures { OnOk result (out.new.items ≡ out.old.items ++ clock_line to) }
 {
-    out.extend_from_slice(b"clock")?;
+    out.extend_from_slice(CommandWord::Clock.name())?;
     write_number(alloc, out, to)?;
     out.push(b'\n')?;
     Ok(())
@@ -273,7 +276,7 @@ fn write_hold(
 ) -> Result<(), AllocError>
     ensures { OnOk result (out.new.items ≡ out.old.items ++ hold_line endpoint.now ms) }
 {
-    write_endpoint(alloc, out, b"hold ", endpoint)?;
+    write_endpoint(alloc, out, CommandWord::Hold.start(), endpoint)?;
     write_number(alloc, out, ms)?;
     out.push(b'\n')?;
     Ok(())
@@ -282,7 +285,7 @@ fn write_hold(
 fn write_release(alloc: Global, out: &mut Vec<u8>, endpoint: &Endpoint) -> Result<(), AllocError>
     ensures { OnOk result (out.new.items ≡ out.old.items ++ release_line endpoint.now) }
 {
-    write_endpoint(alloc, out, b"release ", endpoint)?;
+    write_endpoint(alloc, out, CommandWord::Release.start(), endpoint)?;
     out.push(b'\n')?;
     Ok(())
 }

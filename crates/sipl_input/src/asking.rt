@@ -4,7 +4,7 @@ ghost use Rattle.std.specs.Prelude.{◌≤◌, length};
 use crate::input::Input;
 use memchr::memchr;
 use sipl_archive::taken_by;
-use sipl_lines::MAX_LINE_LEN;
+use sipl_lines::{CommandWord, MAX_LINE_LEN};
 use sipl_records::next_field;
 use std::alloc::{AllocError, Global};
 use std::io;
@@ -20,8 +20,21 @@ const CHUNK: usize = 16_384;
 // The most reads in which no line ends that the session is to have.
 const MAX_READS: u32 = 1 << 31;
 
-// What stands for a line that is refused: the desk of a session that may only ask refuses it too.
-const REFUSED: &[u8] = b"repair\n";
+// The words of the commands that do more than to ask.
+const REFUSED_WORDS: [CommandWord; 9] = [
+    CommandWord::Zone,
+    CommandWord::Drop,
+    CommandWord::Add,
+    CommandWord::Del,
+    CommandWord::Hold,
+    CommandWord::Release,
+    CommandWord::Clock,
+    CommandWord::Repair,
+    CommandWord::Page,
+];
+
+// The line that stands for one that is refused: the desk of a session that may only ask refuses it too.
+const REFUSED: CommandWord = CommandWord::Repair;
 
 /// What a client sends that may only ask. In place of each line that is refused, and the lines that it takes,
 /// the session has one that its desk refuses: so it keeps no zone, and makes no hold but those of its calls.
@@ -110,7 +123,8 @@ impl Filter {
             self.skipped = self.skipped.saturating_sub(1);
         } else if is_refused(&self.line) {
             self.skipped = taken_by(&self.line);
-            self.lines.extend_from_slice(REFUSED)?;
+            self.lines.extend_from_slice(REFUSED.name())?;
+            self.lines.push(b'\n')?;
         } else {
             self.lines.extend_from_slice(&self.line)?;
             self.lines.push(b'\n')?;
@@ -123,18 +137,7 @@ impl Filter {
 // Whether a line is a command that does more than to ask.
 fn is_refused(line: &[u8]) -> bool {
     match next_field(line) {
-        Some((word, _)) => matches!(
-            word,
-            b"zone"
-                | b"drop"
-                | b"add"
-                | b"del"
-                | b"hold"
-                | b"release"
-                | b"clock"
-                | b"repair"
-                | b"page"
-        ),
+        Some((word, _)) => REFUSED_WORDS.iter().any(|refused| refused.is(word)),
         None => false,
     }
 }

@@ -1,15 +1,12 @@
 -- What a line asks for, by its first word.
-use Rattle.std.proofs.Common.{◌≡◌, ◌≤◌, ◌==◌, ℕ, List, [], ◌∷◌, ◌++◌, Bool, false, if◌then◌else◌, Option, None, Some, Bor, codes, nat_eq, length, refl, sym, ap, ◌∙◌, subst, inl, inr}
-use Rattle.std.specs.Prelude.{IsUtf8, unwrap_or}
+use Rattle.std.proofs.Common.{◌≡◌, ◌≤◌, ◌==◌, ℕ, List, [], ◌∷◌, ◌++◌, Bool, false, if◌then◌else◌, Option, None, Some, Bor, codes, nat_eq, length, refl, sym, ap, ◌∙◌, subst}
+use Rattle.std.specs.Prelude.{unwrap_or}
 use Rattle.std.specs.List.{slice_get}
 use Rattle.std.specs.Option.{option_copied, option_eq}
-use Rattle.std.proofs.lemmas.Bool.{cases_Bool, le-ltb}
-use Rattle.std.specs.Cmp.Lexicographic.{same_text}
-use lib.Pointwise.{pointwise}
-use lib.Utf8.{encode}
+use Rattle.std.proofs.lemmas.Bool.{le-ltb}
 use Rattle.sipl_names.specs.Labels.{Octets}
 use Rattle.sipl_records.specs.Fields.{fields_of, trim_start, after_field, prepend_octet}
-use Rattle.sipl_lines.specs.Requests.{nothing, unknown, too_long, is_comment, command_request, fields_request, find_request, request_of}
+use Rattle.sipl_lines.specs.Requests.{nothing, too_long, is_comment, command_request, fields_request, find_request, request_of}
 
 -- a line whose first octet is not # is no comment
 pub no_comment : (line : Octets) (first : Option (Bor ℕ)) (sign : Bor ℕ) → option_copied first ≡ slice_get line 0
@@ -46,34 +43,3 @@ find_whole rest short = first_word (codes "find " ++ rest) (codes "find") (32 �
 -- a line that begins with `find` and a space asks for what the fields after it do
 pub find_line : (line rest : Octets) → length line ≤ 65536 → line ≡ codes "find " ++ rest → request_of line ≡ find_request (fields_of rest)
 find_line line rest short is = ap request_of is ∙ find_whole rest (subst (λ (text : Octets). length text ≤ 65536) is short)
-
--- a word that is no text is another than one that is
-other_word : (word text : Octets) → ¬ (IsUtf8 word) → IsUtf8 text → pointwise nat_eq word text ≡ false
-other_word word text invalid valid = elim (cases_Bool (pointwise nat_eq word text)) [
-  | inl same ↦ absurd (invalid (subst IsUtf8 (sym (same_text word text (sym same))) valid))
-  | inr other ↦ other
-]
-
-pass : {A : Type 0} (test : Bool) (here there end : A) → test ≡ false → there ≡ end → (if test then here else there) ≡ end
-pass test here there end is next = ap (λ (b : Bool). if b then here else there) is ∙ next
-
--- no command has a word that is no text
-pub no_command : (word : Octets) (others : List Octets) (text : Octets) → ¬ (IsUtf8 word) → command_request word others text ≡ unknown
-unfolding encode
-no_command word others text invalid =
-    let other : (w : Octets) → IsUtf8 w → pointwise nat_eq word w ≡ false = λ w valid. other_word word w invalid valid in
-    pass _ _ _ _ (other (codes "zone") (codes "zone", (refl, refl)))
-    (pass _ _ _ _ (other (codes "drop") (codes "drop", (refl, refl)))
-    (pass _ _ _ _ (other (codes "add") (codes "add", (refl, refl)))
-    (pass _ _ _ _ (other (codes "del") (codes "del", (refl, refl)))
-    (pass _ _ _ _ (other (codes "find") (codes "find", (refl, refl)))
-    (pass _ _ _ _ (other (codes "deps") (codes "deps", (refl, refl)))
-    (pass _ _ _ _ (other (codes "repair") (codes "repair", (refl, refl)))
-    (pass _ _ _ _ (other (codes "page") (codes "page", (refl, refl)))
-    (pass _ _ _ _ (other (codes "hold") (codes "hold", (refl, refl)))
-    (pass _ _ _ _ (other (codes "release") (codes "release", (refl, refl)))
-    (pass _ _ _ _ (other (codes "clock") (codes "clock", (refl, refl)))
-    (pass _ _ _ _ (other (codes "call") (codes "call", (refl, refl)))
-    (pass _ _ _ _ (other (codes "got") (codes "got", (refl, refl)))
-    (pass _ _ _ _ (other (codes "broke") (codes "broke", (refl, refl)))
-    (pass _ _ _ _ (other (codes "quit") (codes "quit", (refl, refl))) refl))))))))))))))

@@ -1,4 +1,4 @@
--- The lengths of the texts of names and kinds.
+-- The lengths of the texts of names, kinds and commands.
 use Rattle.std.proofs.Common.{◌*◌, ◌≤◌, [], ◌∷◌, length, arith, length-append}
 use Rattle.std.specs.List.{flat_map}
 use Rattle.sipl_names.specs.Labels.{Labels, wire_of, wire_length}
@@ -7,6 +7,9 @@ use Rattle.sipl_names.proofs.Public.{length-printed_label}
 use Rattle.sipl_records.specs.Kinds.{text_of_kind}
 use Rattle.sipl_records.specs.declared.kind.Kind.{Kind}
 use Rattle.sipl_records.specs.declared.kind.Kind.TheVariants.{Exists}
+use Rattle.sipl_lines.specs.CommandWords.{ok_words}
+use Rattle.sipl_lines.specs.declared.command_word.CommandWord.{CommandWord}
+use Rattle.sipl_lines.specs.declared.command_word.CommandWord.TheVariants as command
 
 length-printed : (labels : Labels) → length (flat_map printed_label labels) ≤ 4 * length (wire_of labels)
 length-printed [] = omega arith
@@ -21,3 +24,7 @@ name_text_is_short (label ∷ labels) = omega (arith, length-printed (label ∷ 
 pub kind_text_is_short : (kind : Kind) → length (text_of_kind kind) ≤ 6
 kind_text_is_short Exists = omega arith
 kind_text_is_short _ = omega arith
+
+pub words_are_short : (word : CommandWord) → length (ok_words word) ≤ 10
+words_are_short command.Quit = omega arith
+words_are_short _ = omega arith

@@ -29,6 +29,8 @@ use Rattle.sipl_book.specs.declared.outcome.Handed.{Handed}
 use Rattle.sipl_lines.specs.Commands.{Keeps, Refuses, MovesTo}
 use Rattle.sipl_lines.specs.Desk.{DeskRules}
 use Rattle.sipl_lines.specs.ReplyText.{answer_text, counts_line, number_field, word_field}
+use Rattle.sipl_lines.specs.CommandWords.{ok_words}
+use Rattle.sipl_lines.specs.declared.command_word.CommandWord.TheVariants as command
 
 -- a desk, and the last call that was made there
 pub record CallDesk (D : Type 0) : Type 0 where
@@ -138,7 +140,7 @@ abbrev pub TellsTime : {D F : Type 0} → DeskRules D F → ℕ → Result ℕ F
 TellsTime rules ms (Err fault) before text after =
     Refuses (rules.fault_text fault) before text after
 TellsTime rules ms (Ok number) before text after =
-    Ticks rules (counts_line (codes "ok clock") (ms ∷ [])) ms before.call before text after
+    Ticks rules (counts_line (ok_words command.Clock) (ms ∷ [])) ms before.call before text after
 
 -- `clock`
 abbrev pub SetsClock : {D F : Type 0} → DeskRules D F → ℕ → CallDesk D → Octets → CallDesk D → Type 0
@@ -154,7 +156,7 @@ OpensOver kind base moment [] before text after =
     Refuses (failover_code NoTargets) before text after
 OpensOver kind base moment (first ∷ others) before text after =
     let run : FailoverRun = new_run (take 2048 (first ∷ others)) kind base moment in
-    (text ≡ steps_text run (Send 1 ∷ []) ++ counts_line (codes "ok call") []) × (after ≡ Some run)
+    (text ≡ steps_text run (Send 1 ∷ []) ++ counts_line (ok_words command.Call) []) × (after ≡ Some run)
 
 -- the call that an answer opens; where there are no targets, an earlier call stays as it was
 abbrev pub Opens : Kind → ℕ → ℕ → Answer → Option FailoverRun → Octets → Option FailoverRun → Type 0

@@ -28,6 +28,8 @@ use Rattle.sipl_lines.specs.declared.desk_commands.RecordEdit.{RecordEdit}
 use Rattle.sipl_lines.specs.declared.desk_commands.RecordEdit.TheVariants.{Add as AddRecord, Remove as RemoveRecord}
 use Rattle.sipl_lines.specs.Desk.{DeskRules}
 use Rattle.sipl_lines.specs.ReplyText.{counts_line, refusal_line, text_fault_line, HasTargets, answer_text, evidence_text}
+use Rattle.sipl_lines.specs.CommandWords.{fault_words, ok_words}
+use Rattle.sipl_lines.specs.declared.command_word.CommandWord.TheVariants as command
 
 -- this is the reply, and the desk is as it was
 abbrev pub Keeps : {D : Type 0} → Octets → D → Octets → D → Type 0
@@ -76,21 +78,22 @@ Edits rules words counts edit before text after =
 -- a zone's text is loaded; a fault in it is reported with its line
 abbrev pub Loads : {D F : Type 0} → DeskRules D F → Result Zone ZoneFault → D → Octets → D → Type 0
 Loads rules (Err fault) before text after =
-    Keeps (text_fault_line (codes "err zone") fault.line (zone_code fault)) before text after
+    Keeps (text_fault_line (fault_words command.Zone) fault.line (zone_code fault)) before text after
 Loads rules (Ok zone) before text after =
-    Edits rules (codes "ok zone") (length zone.records ∷ zone.outside ∷ zone.repeated ∷ [])
+    Edits rules (ok_words command.Zone) (length zone.records ∷ zone.outside ∷ zone.repeated ∷ [])
     (Load zone) before text after
 
 -- the zone of an apex is unloaded
 abbrev pub Unloads : {D F : Type 0} → DeskRules D F → Result Labels InvalidName → D → Octets → D
     → Type 0
 Unloads rules (Err fault) before text after = Refuses (name_code fault) before text after
-Unloads rules (Ok apex) before text after = Edits rules (codes "ok drop") [] (Unload apex) before text after
+Unloads rules (Ok apex) before text after =
+    Edits rules (ok_words command.Drop) [] (Unload apex) before text after
 
 -- the words of the reply to an accepted edit of a record, and the edit
 abbrev pub record_words : RecordEdit → Octets
-record_words AddRecord = codes "ok add"
-record_words RemoveRecord = codes "ok del"
+record_words AddRecord = ok_words command.Add
+record_words RemoveRecord = ok_words command.Del
 
 abbrev pub record_edit : RecordEdit → Record → Edit
 record_edit AddRecord r = Add r
@@ -136,11 +139,11 @@ ListsUri rules (Ok question) before text after = Lists rules question before tex
 -- what edits have changed is looked up again
 abbrev pub Repairs : {D F : Type 0} → DeskRules D F → D → Octets → D → Type 0
 Repairs rules before text after =
-    Does rules rules.Repairs (λ done. counts_line (codes "ok repair") []) before text after
+    Does rules rules.Repairs (λ done. counts_line (ok_words command.Repair) []) before text after
 
 -- the reply to an accepted page: the number of its first event, and how many events it has
 abbrev pub page_text : Extent → Octets
-page_text extent = counts_line (codes "ok page") (extent.first ∷ extent.count ∷ [])
+page_text extent = counts_line (ok_words command.Page) (extent.first ∷ extent.count ∷ [])
 
 -- the journal is returned as a page, and an empty one begins
 abbrev pub TurnsPage : {D F : Type 0} → DeskRules D F → D → Octets → D → Type 0
@@ -153,8 +156,8 @@ MovesTo rules reply event before text after =
 
 -- the words of the reply to an accepted change of a hold, and the event
 abbrev pub change_words : HoldChange → Octets
-change_words (change.Hold ms) = codes "ok hold"
-change_words change.Release = codes "ok release"
+change_words (change.Hold ms) = ok_words command.Hold
+change_words change.Release = ok_words command.Release
 
 abbrev pub change_event : HoldChange → Endpoint → BoardEvent
 change_event (change.Hold ms) endpoint = Hold endpoint ms

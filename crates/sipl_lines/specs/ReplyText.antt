@@ -11,6 +11,8 @@ use Rattle.sipl_names.specs.Labels.{Octets}
 use Rattle.sipl_names.specs.NamePrint.{text_of}
 use Rattle.sipl_records.specs.Kinds.{text_of_kind}
 use Rattle.sipl_evidence.specs.Items.{Item}
+use Rattle.sipl_lines.specs.CommandWords.{ok_words}
+use Rattle.sipl_lines.specs.declared.command_word.CommandWord.TheVariants as command
 
 -- a word with a space before it
 abbrev pub word_field : Octets → Octets
@@ -47,7 +49,7 @@ target_lines number (endpoint ∷ others) =
 -- the reply to a question
 abbrev pub answer_text : Answer → Octets
 answer_text (Targets targets) =
-    target_lines 1 targets ++ counts_line (codes "ok find") (length targets ∷ [])
+    target_lines 1 targets ++ counts_line (ok_words command.Find) (length targets ∷ [])
 answer_text (None reason) = codes "none " ++ reason_text reason ++ 10 ∷ []
 
 -- whether an answer has targets: an output may have to grow for their lines only
@@ -70,4 +72,4 @@ evidence_line item =
 -- the reply with the record sets of evidence, in their order
 abbrev pub evidence_text : List Item → Octets
 evidence_text items =
-    flat_map evidence_line items ++ counts_line (codes "ok deps") (length items ∷ [])
+    flat_map evidence_line items ++ counts_line (ok_words command.Deps) (length items ∷ [])

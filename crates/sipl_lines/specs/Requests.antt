@@ -13,7 +13,9 @@ use Rattle.sipl_srv.specs.declared.fault.DrawsFault.{DrawsFault}
 use Rattle.sipl_tx.specs.declared.parts.Kind.{Kind}
 use Rattle.sipl_tx.specs.declared.parts.Kind.TheVariants.{Invite, Other}
 use Rattle.sipl_names.specs.Labels.{Octets}
+use Rattle.sipl_lines.specs.CommandWords.{is_word}
 use Rattle.sipl_lines.specs.DrawsField.{draws_of}
+use Rattle.sipl_lines.specs.declared.command_word.CommandWord.TheVariants as command
 
 -- a request with its fields; a line without fields and a comment ask for nothing
 pub data Request : Type 0 where
@@ -174,21 +176,21 @@ quit_request _ = unknown
 -- what the command word asks for, with the fields after it, or the rest of the line for a record
 abbrev pub command_request : Octets → List Octets → Octets → Request
 command_request word others text =
-    if pointwise nat_eq word (codes "zone") then zone_request others
-    else (if pointwise nat_eq word (codes "drop") then drop_request others
-    else (if pointwise nat_eq word (codes "add") then add_request text
-    else (if pointwise nat_eq word (codes "del") then del_request text
-    else (if pointwise nat_eq word (codes "find") then find_request others
-    else (if pointwise nat_eq word (codes "deps") then deps_request others
-    else (if pointwise nat_eq word (codes "repair") then repair_request others
-    else (if pointwise nat_eq word (codes "page") then page_request others
-    else (if pointwise nat_eq word (codes "hold") then hold_request others
-    else (if pointwise nat_eq word (codes "release") then release_request others
-    else (if pointwise nat_eq word (codes "clock") then clock_request others
-    else (if pointwise nat_eq word (codes "call") then call_request others
-    else (if pointwise nat_eq word (codes "got") then got_request others
-    else (if pointwise nat_eq word (codes "broke") then broke_request others
-    else (if pointwise nat_eq word (codes "quit") then quit_request others else unknown))))))))))))))
+    if is_word command.Zone word then zone_request others
+    else (if is_word command.Drop word then drop_request others
+    else (if is_word command.Add word then add_request text
+    else (if is_word command.Del word then del_request text
+    else (if is_word command.Find word then find_request others
+    else (if is_word command.Deps word then deps_request others
+    else (if is_word command.Repair word then repair_request others
+    else (if is_word command.Page word then page_request others
+    else (if is_word command.Hold word then hold_request others
+    else (if is_word command.Release word then release_request others
+    else (if is_word command.Clock word then clock_request others
+    else (if is_word command.Call word then call_request others
+    else (if is_word command.Got word then got_request others
+    else (if is_word command.Broke word then broke_request others
+    else (if is_word command.Quit word then quit_request others else unknown))))))))))))))
 
 -- what the fields of a line ask for
 abbrev pub fields_request : List Octets → Octets → Request

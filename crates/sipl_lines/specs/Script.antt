@@ -33,6 +33,8 @@ use Rattle.sipl_lines.specs.declared.gather.Gathering.{Gathering}
 use Rattle.sipl_lines.specs.declared.play.Play.{Play}
 use Rattle.sipl_lines.specs.declared.script.Script.{Script}
 use Rattle.sipl_lines.specs.declared.script.Script.TheVariants.{Waiting, Playing, Ended}
+use Rattle.sipl_lines.specs.CommandWords.{fault_words}
+use Rattle.sipl_lines.specs.declared.command_word.CommandWord.TheVariants as command
 
 -- ---- once there is a world
 
@@ -50,7 +52,7 @@ MakesOrRefuses (Err code) before text after = Refuses code before text after
 abbrev pub LoadsText : Result Zone ZoneFault → WorldState → Octets → WorldState → Type 0
 LoadsText (Ok loaded) before text after = Makes (Change (Load loaded)) before text after
 LoadsText (Err fault) before text after =
-    Keeps (text_fault_line (codes "err zone") fault.line (zone_code fault)) before text after
+    Keeps (text_fault_line (fault_words command.Zone) fault.line (zone_code fault)) before text after
 
 -- `zone APEX COUNT`, once its lines are taken: the first of these that applies is reported
 abbrev pub Loads : Gathered → WorldState → Octets → WorldState → Type 0

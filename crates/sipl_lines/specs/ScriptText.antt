@@ -24,6 +24,8 @@ use Rattle.sipl_lines.specs.Commands.{page_text}
 use Rattle.sipl_lines.specs.ReplyText.{HasTargets, answer_text, counts_line, number_field, refusal_line, word_field}
 use Rattle.sipl_lines.specs.declared.script_reply.Shown.{Shown}
 use Rattle.sipl_lines.specs.declared.script_reply.Shown.TheVariants as shown
+use Rattle.sipl_lines.specs.CommandWords.{ok_words}
+use Rattle.sipl_lines.specs.declared.command_word.CommandWord.TheVariants as command
 
 -- what the reply to a step shows beside its result: the command, the counts of a zone's text, and the
 -- time to which the clock is set
@@ -41,17 +43,17 @@ shown_of _ = shown.Other
 -- the reply to an accepted edit, which changed this number of record sets
 abbrev pub changed_text : Shown → ℕ → Octets
 changed_text (shown.Zone records outside repeated) changed =
-    counts_line (codes "ok zone") (records ∷ outside ∷ repeated ∷ changed ∷ [])
-changed_text shown.Drop changed = counts_line (codes "ok drop") (changed ∷ [])
-changed_text shown.Add changed = counts_line (codes "ok add") (changed ∷ [])
-changed_text shown.Del changed = counts_line (codes "ok del") (changed ∷ [])
+    counts_line (ok_words command.Zone) (records ∷ outside ∷ repeated ∷ changed ∷ [])
+changed_text shown.Drop changed = counts_line (ok_words command.Drop) (changed ∷ [])
+changed_text shown.Add changed = counts_line (ok_words command.Add) (changed ∷ [])
+changed_text shown.Del changed = counts_line (ok_words command.Del) (changed ∷ [])
 changed_text _ changed = counts_line (codes "ok") (changed ∷ [])
 
 -- the reply to an accepted hold, release or move of the clock
 abbrev pub moved_text : Shown → Octets
-moved_text shown.Hold = counts_line (codes "ok hold") []
-moved_text shown.Release = counts_line (codes "ok release") []
-moved_text (shown.Clock ms) = counts_line (codes "ok clock") (ms ∷ [])
+moved_text shown.Hold = counts_line (ok_words command.Hold) []
+moved_text shown.Release = counts_line (ok_words command.Release) []
+moved_text (shown.Clock ms) = counts_line (ok_words command.Clock) (ms ∷ [])
 moved_text _ = counts_line (codes "ok") []
 
 -- a record set that a worker read: its owner, its kind, and how many records it has

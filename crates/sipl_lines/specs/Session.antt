@@ -22,6 +22,9 @@ use Rattle.sipl_lines.specs.declared.gather.Gathered.{Gathered}
 use Rattle.sipl_lines.specs.declared.gather.Gathered.TheVariants.{Lines, BadApex, LongLine, Lost}
 use Rattle.sipl_lines.specs.declared.gather.Gathering.{Gathering}
 use Rattle.sipl_lines.specs.declared.session.Session.{Session}
+use Rattle.sipl_lines.specs.CommandWords.{ok_words}
+use Rattle.sipl_lines.specs.ReplyText.{counts_line}
+use Rattle.sipl_lines.specs.declared.command_word.CommandWord.TheVariants as command
 
 -- the state of a session: the desk, the zone whose lines are being taken, the last call, and whether
 -- the session has ended
@@ -129,11 +132,11 @@ Performs rules (clock ms) before text after = AtCall (SetsClock rules ms) before
 Performs rules (call kind base uri draws) before text after =
     AtCall (CallsUri rules kind base (question_of uri) draws) before text after
 Performs rules (got attempt code retry_after) before text after =
-    AtCall (HearsOf rules (codes "ok got") (Received attempt code retry_after)) before text after
+    AtCall (HearsOf rules (ok_words command.Got) (Received attempt code retry_after)) before text after
 Performs rules broke before text after =
-    AtCall (HearsOf rules (codes "ok broke") TransportFailed) before text after
+    AtCall (HearsOf rules (ok_words command.Broke) TransportFailed) before text after
 Performs rules quit before text after =
-    (text ≡ codes "ok quit\n") × (after ≡ record before { ended = true })
+    (text ≡ counts_line (ok_words command.Quit) []) × (after ≡ record before { ended = true })
 
 -- what a request does; where an allocation for its fields fails, nothing happens
 abbrev pub Obeys : {D F : Type 0} → DeskRules D F → Request → SessionState D → Octets

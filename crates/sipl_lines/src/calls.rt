@@ -1,15 +1,18 @@
 // What `call`, `got`, `broke` and `clock` do with a session's call, and their replies.
-ghost use Rattle.std.specs.Prelude.{◌≡◌, ◌+◌, ◌^◌, ◌≤◌, [], ◌∷◌, length, take, codes, Some, IsTrue, OnErr, vec_len, vec_capacity};
+ghost use Rattle.std.specs.Prelude.{◌≡◌, ◌+◌, ◌^◌, ◌≤◌, [], ◌∷◌, length, take, Some, IsTrue, OnErr, vec_len, vec_capacity};
 ghost use Rattle.sipl_uri.specs.Uris.{has_scheme_and_octets, question_of};
 ghost use Rattle.sipl_failover.specs.FailoverRun.{Event};
 ghost use Rattle.sipl_failover.specs.Rules.{refusal_of};
 ghost use Rattle.sipl_lines.specs.Calls.{CallsUri, GoesOn, HearsOf, Opens, OpensOver, Reports, SetsClock, is_open, with_call};
+ghost use Rattle.sipl_lines.specs.CommandWords.{ok_words};
+ghost use Rattle.sipl_lines.specs.declared.command_word.CommandWord.TheVariants as command;
 ghost use Rattle.sipl_lines.specs.ReplyText.{counts_line};
 ghost use Rattle.sipl_lines.specs.Session.{AppendsText, Replies};
 
+use crate::command_word::CommandWord;
 use crate::desk::Desk;
 use crate::desk_commands::{MAX_SHORT_REPLY_LEN, read_question, reply_moved};
-use crate::reply::{write_answer, write_counts, write_refusal};
+use crate::reply::{write_answer, write_done, write_refusal};
 use crate::step_lines::{hold_of, write_steps};
 use sipl_choice::Endpoint;
 use sipl_failover::{Failover, Steps};
@@ -115,7 +118,7 @@ fn start(
     match Failover::start(first_targets(targets, space), kind, base, now) {
         Ok((failover, steps)) => {
             write_steps(out, &failover, steps.as_slice());
-            write_counts(out, b"ok call", &[]);
+            write_done(out, CommandWord::Call, &[]);
             *call = Some(failover);
         }
         Err(fault) => write_refusal(out, fault.code()).unwrap(),
@@ -147,7 +150,7 @@ pub(crate) fn hear_response<D: Desk>(
 )
     requires space { vec_len out.old + MAX_SHORT_REPLY_LEN ≤ vec_capacity out.old }
     ensures done { AppendsText
-        (HearsOf D.rules (codes "ok got") (Event.Received attempt code retry_after))
+        (HearsOf D.rules (ok_words command.Got) (Event.Received attempt code retry_after))
         (with_call desk.old call.old) out.old.items (with_call desk.new call.new) out.new.items }
     ensures capacity { vec_capacity out.old ≤ vec_capacity out.new }
 {
@@ -155,7 +158,7 @@ pub(crate) fn hear_response<D: Desk>(
         return write_refusal(out, "K3").unwrap();
     };
     match failover.receive(attempt, code, retry_after) {
-        Ok(steps) => report(desk, failover, &steps, b"ok got", &[], out),
+        Ok(steps) => report(desk, failover, &steps, CommandWord::Got, &[], out),
         Err(fault) => write_refusal(out, fault.code()).unwrap(),
     }
 }
@@ -163,7 +166,7 @@ pub(crate) fn hear_response<D: Desk>(
 // `broke`: the transport of the call's running attempt has failed. Appends the steps and the reply.
 pub(crate) fn hear_failure<D: Desk>(desk: &mut D, call: &mut Option<Failover>, out: &mut Vec<u8>)
     requires space { vec_len out.old + MAX_SHORT_REPLY_LEN ≤ vec_capacity out.old }
-    ensures done { AppendsText (HearsOf D.rules (codes "ok broke") Event.TransportFailed)
+    ensures done { AppendsText (HearsOf D.rules (ok_words command.Broke) Event.TransportFailed)
         (with_call desk.old call.old) out.old.items (with_call desk.new call.new) out.new.items }
     ensures capacity { vec_capacity out.old ≤ vec_capacity out.new }
 {
@@ -171,7 +174,7 @@ pub(crate) fn hear_failure<D: Desk>(desk: &mut D, call: &mut Option<Failover>, o
         return write_refusal(out, "K3").unwrap();
     };
     match failover.transport_error() {
-        Ok(steps) => report(desk, failover, &steps, b"ok broke", &[], out),
+        Ok(steps) => report(desk, failover, &steps, CommandWord::Broke, &[], out),
         Err(fault) => write_refusal(out, fault.code()).unwrap(),
     }
 }
@@ -194,7 +197,7 @@ pub(crate) fn set_clock<D: Desk>(
     }
     match call {
         Some(failover) if !failover.has_ended() => tick(desk, failover, to, out),
-        _ => write_counts(out, b"ok clock", &[to]),
+        _ => write_done(out, CommandWord::Clock, &[to]),
     }
 }
 
@@ -202,39 +205,39 @@ pub(crate) fn set_clock<D: Desk>(
 fn tick<D: Desk>(desk: &mut D, failover: &mut Failover, to: u64, out: &mut Vec<u8>)
     requires space { vec_len out.old + MAX_SHORT_REPLY_LEN ≤ vec_capacity out.old }
     requires time { to ≤ 2 ^ 52 }
-    ensures done { AppendsText (GoesOn D.rules (counts_line (codes "ok clock") (to ∷ []))
+    ensures done { AppendsText (GoesOn D.rules (counts_line (ok_words command.Clock) (to ∷ []))
         failover.old (Event.Ticked to) (refusal_of failover.old (Event.Ticked to)))
         (with_call desk.old (Some failover.old)) out.old.items
         (with_call desk.new (Some failover.new)) out.new.items }
     ensures capacity { vec_capacity out.old ≤ vec_capacity out.new }
 {
     match failover.tick(to) {
-        Ok(steps) => report(desk, failover, &steps, b"ok clock", &[to], out),
+        Ok(steps) => report(desk, failover, &steps, CommandWord::Clock, &[to], out),
         Err(fault) => write_refusal(out, fault.code()).unwrap(),
     }
 }
 
-// Appends the lines of a call's steps, makes the hold among them, and appends the last line: words
-// and numbers, or why the hold was refused.
+// Appends the lines of a call's steps, makes the hold among them, and appends the last line: that
+// the command is accepted, with numbers, or why the hold was refused.
+#[tactic(auto, using(crate::proofs::Lengths::words_are_short))]
 fn report<D: Desk>(
     desk: &mut D,
     failover: &Failover,
     steps: &Steps,
-    words: &[u8],
+    word: CommandWord,
     numbers: &[u64],
     out: &mut Vec<u8>,
 )
     requires space { vec_len out.old + MAX_SHORT_REPLY_LEN ≤ vec_capacity out.old }
-    requires words { length words.now ≤ 10 }
     requires numbers { length numbers.now ≤ 1 }
-    ensures done { AppendsText (Reports D.rules (counts_line words.now numbers.now)
+    ensures done { AppendsText (Reports D.rules (counts_line (ok_words word) numbers.now)
         failover.now steps.now) desk.old out.old.items desk.new out.new.items }
     ensures capacity { vec_capacity out.old ≤ vec_capacity out.new }
 {
     let steps = steps.as_slice();
     write_steps(out, failover, steps);
     match hold_of(steps) {
-        Some((endpoint, ms)) => reply_moved::<D>(desk.hold(&endpoint, ms), words, numbers, out),
-        None => write_counts(out, words, numbers),
+        Some((endpoint, ms)) => reply_moved::<D>(desk.hold(&endpoint, ms), word, numbers, out),
+        None => write_done(out, word, numbers),
     }
 }

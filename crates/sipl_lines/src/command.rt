@@ -8,6 +8,7 @@ ghost use Rattle.sipl_lines.specs.Requests.{add_request, broke_request, call_req
 ghost use Rattle.sipl_lines.specs.ScriptLines.{as_in_session};
 ghost use Rattle.sipl_lines.specs.ScriptMeaning.{meaning_of_line};
 
+use crate::command_word::CommandWord;
 use crate::draws_field::read_draws;
 use crate::script_line::ScriptLine;
 use sipl_choice::{Endpoint, Transport};
@@ -71,7 +72,7 @@ pub(crate) fn read_command(line: &[u8]) -> Command<'_>
         return Command::TooLong;
     }
     // `find`, which most lines are, is tried first.
-    if let Some(rest) = line.strip_prefix(b"find ".as_slice()) {
+    if let Some(rest) = line.strip_prefix(CommandWord::Find.start()) {
         return match read_find(rest) {
             Some(command) => command,
             None => Command::Unknown,
@@ -113,26 +114,38 @@ fn read_fields<'a>(word: &[u8], rest: &'a [u8]) -> Option<Command<'a>>
     ensures { meaning_if_read result
         ≡ command_request word.now (fields_of rest.now) (trim_start rest.now) }
 {
-    let Ok(word) = str::from_utf8(word) else {
-        return None;
-    };
-    match word {
-        "zone" => read_zone(rest),
-        "drop" => read_drop(rest),
-        "add" => read_add(trim_start(rest)),
-        "del" => read_del(trim_start(rest)),
-        "find" => read_find(rest),
-        "deps" => read_deps(rest),
-        "repair" => read_repair(rest),
-        "page" => read_page(rest),
-        "hold" => read_hold(rest),
-        "release" => read_release(rest),
-        "clock" => read_clock(rest),
-        "call" => read_call(rest),
-        "got" => read_got(rest),
-        "broke" => read_broke(rest),
-        "quit" => read_quit(rest),
-        _ => None,
+    if CommandWord::Zone.is(word) {
+        read_zone(rest)
+    } else if CommandWord::Drop.is(word) {
+        read_drop(rest)
+    } else if CommandWord::Add.is(word) {
+        read_add(trim_start(rest))
+    } else if CommandWord::Del.is(word) {
+        read_del(trim_start(rest))
+    } else if CommandWord::Find.is(word) {
+        read_find(rest)
+    } else if CommandWord::Deps.is(word) {
+        read_deps(rest)
+    } else if CommandWord::Repair.is(word) {
+        read_repair(rest)
+    } else if CommandWord::Page.is(word) {
+        read_page(rest)
+    } else if CommandWord::Hold.is(word) {
+        read_hold(rest)
+    } else if CommandWord::Release.is(word) {
+        read_release(rest)
+    } else if CommandWord::Clock.is(word) {
+        read_clock(rest)
+    } else if CommandWord::Call.is(word) {
+        read_call(rest)
+    } else if CommandWord::Got.is(word) {
+        read_got(rest)
+    } else if CommandWord::Broke.is(word) {
+        read_broke(rest)
+    } else if CommandWord::Quit.is(word) {
+        read_quit(rest)
+    } else {
+        None
     }
 }
 

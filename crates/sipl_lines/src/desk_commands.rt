@@ -5,14 +5,16 @@ ghost use Rattle.sipl_masterfile.specs.Zones.{zone_of};
 ghost use Rattle.sipl_names.specs.NameFault.{IfInvalid};
 ghost use Rattle.sipl_names.specs.NameText.{name_of};
 ghost use Rattle.sipl_uri.specs.Uris.{has_scheme_and_octets, question_of};
+ghost use Rattle.sipl_lines.specs.CommandWords.{ok_words};
 ghost use Rattle.sipl_lines.specs.Commands.{AnswersUri, ChangesHold, Edits, EditsRecord, ListsUri, Loads, Repairs, TurnsPage, Unloads, handed_text, result_text};
 ghost use Rattle.sipl_lines.specs.ReplyText.{HasTargets, counts_line, evidence_text, refusal_line};
 ghost use Rattle.sipl_lines.specs.Session.{AppendsText, Replies};
 
+use crate::command_word::CommandWord;
 use crate::desk::{Desk, MAX_REFUSAL_LEN};
 use crate::gather::ZoneLines;
 use crate::reply::{
-    write_answer, write_counts, write_evidence, write_page, write_refusal, write_text_fault,
+    write_answer, write_done, write_evidence, write_page, write_refusal, write_text_fault,
 };
 use sipl_book::{Edit, Handed};
 use sipl_choice::Endpoint;
@@ -46,14 +48,23 @@ pub(crate) fn load_zone<D: Desk>(
     let text = match read {
         Ok(text) => text,
         Err(fault) if fault.is_memory() => return Err(AllocError),
-        Err(fault) => return write_text_fault(out, b"err zone", fault.line, fault.code()),
+        Err(fault) => return write_text_fault(
+            out,
+            CommandWord::Zone.fault_words(),
+            fault.line,
+            fault.code(),
+        ),
     };
     let records = text.records().len() as u64;
     let counts = [records, text.outside(), text.repeated()];
     match desk.change(Edit::Load(text)) {
         Ok(done) => {
             let [records, outside, repeated] = counts;
-            write_counts(out, b"ok zone", &[records, outside, repeated, done.changed]);
+            write_done(
+                out,
+                CommandWord::Zone,
+                &[records, outside, repeated, done.changed],
+            );
         }
         Err(fault) => D::write_fault(fault, out),
     }
@@ -72,7 +83,7 @@ pub(crate) fn unload_zone<D: Desk>(
         desk.old out.old result desk.new out.new }
 {
     match read_absolute_name(alloc, apex) {
-        Ok(apex) => edit(desk, Edit::Unload(apex), b"ok drop", out),
+        Ok(apex) => edit(desk, Edit::Unload(apex), CommandWord::Drop, out),
         Err(NameFault::Invalid(invalid)) => write_refusal(out, invalid.code()),
         Err(NameFault::Memory) => Err(AllocError),
     }
@@ -99,27 +110,27 @@ pub(crate) fn edit_record<D: Desk>(
 {
     match read_absolute_record(alloc, text)? {
         Ok(record) => match kind {
-            RecordEdit::Add => edit(desk, Edit::Add(record), b"ok add", out),
-            RecordEdit::Remove => edit(desk, Edit::Remove(record), b"ok del", out),
+            RecordEdit::Add => edit(desk, Edit::Add(record), CommandWord::Add, out),
+            RecordEdit::Remove => edit(desk, Edit::Remove(record), CommandWord::Del, out),
         },
         Err(fault) => write_refusal(out, fault.code()),
     }
 }
 
-// Makes an edit, and appends the reply: the words, and how many sets of records changed.
+// Makes the edit of a command, and appends the reply: how many sets of records changed.
+#[tactic(auto, using(crate::proofs::Lengths::words_are_short))]
 fn edit<D: Desk>(
     desk: &mut D,
     edit: Edit,
-    words: &[u8],
+    word: CommandWord,
     out: &mut Vec<u8>,
 ) -> Result<(), AllocError>
     requires space { vec_len out.old + MAX_SHORT_REPLY_LEN ≤ vec_capacity out.old }
-    requires words { length words.now ≤ 7 }
-    ensures { Replies (Edits D.rules words.now [] edit)
+    ensures { Replies (Edits D.rules (ok_words word) [] edit)
         desk.old out.old result desk.new out.new }
 {
     match desk.change(edit) {
-        Ok(done) => write_counts(out, words, &[done.changed]),
+        Ok(done) => write_done(out, word, &[done.changed]),
         Err(fault) => D::write_fault(fault, out),
     }
     Ok(())
@@ -210,7 +221,7 @@ pub(crate) fn repair<D: Desk>(alloc: Global, desk: &mut D, out: &mut Vec<u8>)
     ensures capacity { vec_capacity out.old ≤ vec_capacity out.new }
 {
     match desk.repair(alloc) {
-        Ok(()) => write_counts(out, b"ok repair", &[]),
+        Ok(()) => write_done(out, CommandWord::Repair, &[]),
         Err(fault) => D::write_fault(fault, out),
     }
 }
@@ -253,27 +264,37 @@ pub(crate) fn change_hold<D: Desk>(
         Err(fault) => return write_refusal(out, fault.code()).unwrap(),
     };
     match change {
-        HoldChange::Hold(ms) => reply_moved::<D>(desk.hold(endpoint, ms), b"ok hold", &[], out),
-        HoldChange::Release => reply_moved::<D>(desk.release(endpoint), b"ok release", &[], out),
+        HoldChange::Hold(ms) => reply_moved::<D>(
+            desk.hold(endpoint, ms),
+            CommandWord::Hold,
+            &[],
+            out,
+        ),
+        HoldChange::Release => reply_moved::<D>(
+            desk.release(endpoint),
+            CommandWord::Release,
+            &[],
+            out,
+        ),
     }
 }
 
-// Appends the reply to a hold, a release or a move of the clock: words and numbers, or its fault.
+// Appends the reply to a command that holds, releases or moves the clock: numbers, or its fault.
+#[tactic(auto, using(crate::proofs::Lengths::words_are_short))]
 pub(crate) fn reply_moved<D: Desk>(
     outcome: Result<u64, D::Fault>,
-    words: &[u8],
+    word: CommandWord,
     numbers: &[u64],
     out: &mut Vec<u8>,
 )
     requires space { vec_len out.old + MAX_REFUSAL_LEN ≤ vec_capacity out.old }
-    requires words { length words.now ≤ 10 }
     requires numbers { length numbers.now ≤ 1 }
     ensures done { out.new.items ≡ out.old.items
-        ++ result_text D.rules (λ number. counts_line words.now numbers.now) outcome }
+        ++ result_text D.rules (λ number. counts_line (ok_words word) numbers.now) outcome }
     ensures capacity { vec_capacity out.old ≤ vec_capacity out.new }
 {
     match outcome {
-        Ok(_) => write_counts(out, words, numbers),
+        Ok(_) => write_done(out, word, numbers),
         Err(fault) => D::write_fault(fault, out),
     }
 }

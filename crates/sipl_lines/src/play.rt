@@ -5,6 +5,7 @@ ghost use Rattle.sipl_lines.specs.Script.{GathersOrLoses, InWorld, Loads, Makes,
 ghost use Rattle.sipl_lines.specs.ScriptMeaning.{meaning_of_line};
 ghost use Rattle.sipl_lines.specs.Session.{AppendsText};
 
+use crate::command_word::CommandWord;
 use crate::gather::{Gathered, Gathering};
 use crate::reply::{write_refusal, write_text_fault};
 use crate::script_line::{ScriptLine, read_script_line};
@@ -129,7 +130,13 @@ fn load_gathered(alloc: Global, world: &mut World, gathered: Gathered, out: &mut
         Gathered::Lines(zone, _) => match read_zone(alloc, zone.text(), zone.apex()) {
             Ok(text) => make_step(world, Step::Change(Edit::Load(text)), out),
             Err(fault) if fault.is_memory() => write_refusal(out, "Memory").unwrap(),
-            Err(fault) => write_text_fault(out, b"err zone", fault.line, fault.code()).unwrap(),
+            Err(fault) => write_text_fault(
+                out,
+                CommandWord::Zone.fault_words(),
+                fault.line,
+                fault.code(),
+            )
+            .unwrap(),
         },
         Gathered::BadApex(fault, _) => write_refusal(out, fault.code()).unwrap(),
         Gathered::LongLine => write_refusal(out, "K2").unwrap(),

@@ -1,10 +1,13 @@
 // How replies are written.
-ghost use Rattle.std.specs.Prelude.{◌≡◌, ◌+◌, ◌*◌, ◌≤◌, [], ◌∷◌, ◌++◌, length, take, codes, IsOk, OnOk, OnErr, vec_len, vec_capacity};
+ghost use Rattle.std.specs.Prelude.{◌≡◌, ◌+◌, ◌*◌, ◌≤◌, [], ◌∷◌, ◌++◌, length, take, IsOk, OnOk, OnErr, vec_len, vec_capacity};
+ghost use Rattle.sipl_lines.specs.CommandWords.{ok_words};
+ghost use Rattle.sipl_lines.specs.declared.command_word.CommandWord.TheVariants as command;
 ghost use Rattle.sipl_lines.specs.Commands.{page_text};
 ghost use Rattle.sipl_lines.specs.ReplyText.{answer_text, evidence_line, evidence_text, max_answer_len, counts_line, refusal_line, text_fault_line, number_field, target_line, target_lines, word_field};
 ghost use Rattle.sipl_names.specs.NamePrint.{text_of};
 ghost use Rattle.sipl_records.specs.Kinds.{text_of_kind};
 
+use crate::command_word::CommandWord;
 use itoa::Buffer;
 use sipl_book::Extent;
 use sipl_choice::Endpoint;
@@ -41,6 +44,16 @@ pub(crate) fn write_counts(out: &mut Vec<u8>, words: &[u8], numbers: &[u64])
         write_number(out, *number);
     }
     out.push_reserved(b'\n');
+}
+
+// Appends the reply to a command that is accepted, with numbers, to space that is reserved.
+pub(crate) fn write_done(out: &mut Vec<u8>, word: CommandWord, numbers: &[u64])
+    requires { vec_len out.old + length (ok_words word) + MAX_NUMBER_FIELD_LEN * length numbers.now + 1
+        ≤ vec_capacity out.old }
+    ensures ok { out.new.items ≡ out.old.items ++ counts_line (ok_words word) numbers.now }
+    ensures capacity { vec_capacity out.old ≤ vec_capacity out.new }
+{
+    write_counts(out, word.ok_words(), numbers);
 }
 
 // Appends a space and a number to space that is reserved.
@@ -104,7 +117,7 @@ pub(crate) fn write_page(out: &mut Vec<u8>, extent: Extent)
     ensures ok { out.new.items ≡ out.old.items ++ page_text extent }
     ensures capacity { vec_capacity out.old ≤ vec_capacity out.new }
 {
-    write_counts(out, b"ok page", &[extent.first, extent.count]);
+    write_done(out, CommandWord::Page, &[extent.first, extent.count]);
 }
 
 // Appends the reply to a command that is refused. An error leaves `out` as it was.
@@ -175,7 +188,7 @@ pub(crate) fn write_answer(out: &mut Vec<u8>, answer: &Answer) -> Result<(), All
 fn write_targets(out: &mut Vec<u8>, targets: &[Endpoint]) -> Result<(), AllocError>
     ensures ok { OnOk result (out.new.items
         ≡ out.old.items ++ (target_lines 1 targets.now
-        ++ counts_line (codes "ok find") (length targets.now ∷ []))) }
+        ++ counts_line (ok_words command.Find) (length targets.now ∷ []))) }
     ensures err { OnErr result (out.new.items ≡ out.old.items) }
     ensures capacity { vec_capacity out.old ≤ vec_capacity out.new }
     ensures succeeds { vec_len out.old + 94 * length targets.now + 29 ≤ vec_capacity out.old
@@ -188,7 +201,7 @@ fn write_targets(out: &mut Vec<u8>, targets: &[Endpoint]) -> Result<(), AllocErr
         write_target(out, number, target);
         number += 1;
     }
-    write_counts(out, b"ok find", &[targets.len() as u64]);
+    write_done(out, CommandWord::Find, &[targets.len() as u64]);
     Ok(())
 }
 
@@ -233,7 +246,7 @@ fn append_evidence(out: &mut Vec<u8>, items: &[Item]) -> Result<(), AllocError>
         write_set(out, item)?;
     }
     out.reserve(MAX_COUNT_LINE_LEN)?;
-    write_counts(out, b"ok deps", &[items.len() as u64]);
+    write_done(out, CommandWord::Deps, &[items.len() as u64]);
     Ok(())
 }
 

@@ -5,9 +5,11 @@ ghost use Rattle.sipl_lines.specs.ReplyText.{word_field};
 ghost use Rattle.sipl_lines.specs.ScriptText.{Shows, changed_text, lease_text, moved_text, port_field, read_text, scheme_text, shown_of, stale_text, target_text, transport_field, uncommitted_text};
 ghost use Rattle.sipl_lines.specs.Session.{AppendsText};
 
+use crate::command_word::CommandWord;
 use crate::desk_commands::reply_handed;
 use crate::reply::{
-    write_counts, write_key, write_name, write_number, write_page, write_refusal, write_word,
+    write_counts, write_done, write_key, write_name, write_number, write_page, write_refusal,
+    write_word,
 };
 use sipl_book::{BookFault, Edit, Uncommitted};
 use sipl_choice::Transport;
@@ -90,11 +92,15 @@ fn write_changed(shown: Shown, changed: u64, out: &mut Vec<u8>)
 {
     match shown {
         Shown::Zone(records, outside, repeated) => {
-            write_counts(out, b"ok zone", &[records, outside, repeated, changed]);
+            write_done(
+                out,
+                CommandWord::Zone,
+                &[records, outside, repeated, changed],
+            );
         }
-        Shown::Drop => write_counts(out, b"ok drop", &[changed]),
-        Shown::Add => write_counts(out, b"ok add", &[changed]),
-        Shown::Del => write_counts(out, b"ok del", &[changed]),
+        Shown::Drop => write_done(out, CommandWord::Drop, &[changed]),
+        Shown::Add => write_done(out, CommandWord::Add, &[changed]),
+        Shown::Del => write_done(out, CommandWord::Del, &[changed]),
         _ => write_counts(out, b"ok", &[changed]),
     }
 }
@@ -105,9 +111,9 @@ fn write_moved(shown: Shown, out: &mut Vec<u8>)
     ensures { out.new.items ≡ out.old.items ++ moved_text shown }
 {
     match shown {
-        Shown::Hold => write_counts(out, b"ok hold", &[]),
-        Shown::Release => write_counts(out, b"ok release", &[]),
-        Shown::Clock(to) => write_counts(out, b"ok clock", &[to]),
+        Shown::Hold => write_done(out, CommandWord::Hold, &[]),
+        Shown::Release => write_done(out, CommandWord::Release, &[]),
+        Shown::Clock(to) => write_done(out, CommandWord::Clock, &[to]),
         _ => write_counts(out, b"ok", &[]),
     }
 }

@@ -7,13 +7,14 @@ ghost use Rattle.sipl_lines.specs.Session.{AppendsText, GathersOrLoses, LoadsGat
 
 use crate::calls::{hear_failure, hear_response, open_call, set_clock};
 use crate::command::{Command, read_command};
+use crate::command_word::CommandWord;
 use crate::desk::Desk;
 use crate::desk_commands::{
     HoldChange, MAX_SHORT_REPLY_LEN, RecordEdit, change_hold, edit_record, find, list_evidence,
     load_zone, repair, turn_page, unload_zone,
 };
 use crate::gather::{Gathered, Gathering};
-use crate::reply::write_refusal;
+use crate::reply::{write_done, write_refusal};
 use sipl_failover::Failover;
 use std::alloc::{AllocError, Global};
 
@@ -186,7 +187,8 @@ impl Session {
             }
             Command::Quit => {
                 self.ended = true;
-                out.extend_from_slice(b"ok quit\n")
+                write_done(out, CommandWord::Quit, &[]);
+                Ok(())
             }
         }
     }

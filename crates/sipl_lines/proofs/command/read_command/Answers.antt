@@ -7,8 +7,8 @@ use Rattle.sipl_lines.proofs.command.read_command.Goals as goal
 
 pub returns-in-Some-read_find : goal.returns-in-Some-read_find
 returns-in-Some-read_find c =
-    let whole = strip_prefix_is Decides-eqb c.args.line.now c.as_slice.result.now (Some c.in-Some.rest) c.in-Some.ensures.cases
-    ∙ ap (λ (head : List ℕ). head ++ c.in-Some.rest.now) c.as_slice.ensures in
+    let whole = strip_prefix_is Decides-eqb c.args.line.now c.start.result.now (Some c.in-Some.rest) c.in-Some.ensures.cases
+    ∙ ap (λ (head : List ℕ). head ++ c.in-Some.rest.now) c.start.ensures in
     c.in-Some-read_find.ensures ∙ sym (find_line c.args.line.now c.in-Some.rest.now c.if-line-gt-MAX_LINE_LEN.false whole)
 
 pub returns-in-Some-read_fields : goal.returns-in-Some-read_fields
