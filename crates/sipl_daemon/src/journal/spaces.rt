@@ -30,8 +30,8 @@ impl Spaces {
         }
     }
 
-    /// Takes the space of a hand-over out, if there is some, for a caller that hands so many receipts over. For
-    /// one that hands few over there is none: the space for many would wait with each of its hand-overs.
+    /// Takes the space of a hand-over out, if there is some, for a caller that hands so many receipts over.
+    /// For one that hands few over there is none: the space for many would wait with each of its hand-overs.
     pub(crate) fn take_receipts<R: Wait>(&self, rt: &R, count: usize) -> Option<Receipts> {
         if count < MIN_RECEIPTS {
             return None;
