@@ -72,7 +72,7 @@ fn reply_to_all<H: Host, B: BufRead>(
     Ok(Go::On)
 }
 
-// Replies to the next line, if there is one. Where the first is of a request of HTTP, there is none.
+// Replies to the next line, if there is a whole one. Where the first is of a request of HTTP, there is none.
 fn reply_to_next<H: Host, B: BufRead>(
     host: &H,
     daemon: &Daemon,
@@ -81,7 +81,8 @@ fn reply_to_next<H: Host, B: BufRead>(
     is_first: bool,
 ) -> io::Result<Option<Go>> {
     let mut line = Vec::new(daemon.alloc);
-    if reader.read_until(b'\n', &mut line)? == 0 {
+    reader.read_until(b'\n', &mut line)?;
+    if !line.ends_with(b"\n") {
         return Ok(None);
     }
     daemon.controls.hear(host, client.place);

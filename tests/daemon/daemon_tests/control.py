@@ -5,6 +5,7 @@ from __future__ import annotations
 import contextlib
 import pathlib
 import re
+import socket
 import subprocess
 import time
 
@@ -123,10 +124,23 @@ def holds_are_told_with_what_is_left_of_them(checks: Checks, folder: pathlib.Pat
 @test
 def a_control_connection_sends_65536_octets_in_all(checks: Checks, folder: pathlib.Path) -> None:
     with started(checks, folder, 'clock = "lines"') as daemon:
-        for blanks, wanted in (65_532, ["ok now 0"]), (65_536, None):
+        for blanks, wanted in (65_532, ["ok now 0"]), (65_533, None), (65_536, None):
             with Client(daemon.control) as client:
                 client.send("\n" * blanks + "now\nnow\n")
                 checks.equal((client.reply(), client.reply()), (wanted, None), f"after {blanks} octets")
+        stopped(checks, daemon, 0)
+
+
+@test
+def carries_out_no_control_line_that_its_client_cuts(checks: Checks, folder: pathlib.Path) -> None:
+    with started(checks, folder, 'clock = "lines"') as daemon:
+        for line in "stop", "page", "now", "zones":
+            with Client(daemon.control) as client:
+                client.send(f"now\n{line}")
+                client.stream.shutdown(socket.SHUT_WR)
+                checks.equal(client.reply(), ["ok now 0"], f"before {line!r}")
+                checks.equal((client.reply(), client.rest), (None, b""), f"a reply to {line!r}")
+        checks.equal(daemon.tell("now"), ["ok now 0"], "after them")
         stopped(checks, daemon, 0)
 
 
