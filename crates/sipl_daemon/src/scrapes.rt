@@ -17,11 +17,12 @@ const EXPOSITION: &str = "text/plain; version=0.0.4; charset=utf-8";
 /// there is no place is closed. Returns when they have ended.
 pub(crate) fn accept_scrapers<H: Host>(host: &H, daemon: &Daemon, listener: &Listener) {
     thread::scope(thread::scope_env(), host, |scope| {
+        let mut is_told = false;
         for _ in host.forever() {
             if daemon.scrapes_end.is_asked() {
                 break;
             }
-            let Some(client) = accept_scraper(host, daemon, listener) else {
+            let Some(client) = accept_scraper(host, daemon, listener, &mut is_told) else {
                 continue;
             };
             let place = client.place;
@@ -42,8 +43,26 @@ pub(crate) fn end_scrapes<H: Host>(host: &H, daemon: &Daemon, listener: &Listene
     daemon.scrapers.end(host, Duration::from_millis(0));
 }
 
-fn accept_scraper<H: Host>(host: &H, daemon: &Daemon, listener: &Listener) -> Option<Client> {
-    let stream = next_stream(host, &daemon.scrapes_end, listener).ok()?;
+// Accepts one who reads the metrics, if there is a place. Of accepts that fail in a row the first is told of.
+fn accept_scraper<H: Host>(
+    host: &H,
+    daemon: &Daemon,
+    listener: &Listener,
+    is_told: &mut bool,
+) -> Option<Client> {
+    let stream = match next_stream(host, &daemon.scrapes_end, listener) {
+        Ok(stream) => stream,
+        Err(error) => {
+            if !*is_told && !daemon.scrapes_end.is_asked() {
+                *is_told = true;
+                daemon
+                    .observed
+                    .tell_failed_accept(host, listener.address(), &error);
+            }
+            return None;
+        }
+    };
+    *is_told = false;
     let stream = Arc::new(daemon.alloc, stream).ok()?;
     daemon.scrapers.enter(host, &stream)
 }

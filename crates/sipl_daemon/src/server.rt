@@ -161,17 +161,12 @@ fn accept_client<H: Host>(host: &H, daemon: &Daemon, listener: &Listener) -> Opt
 // have ended.
 fn accept_control<H: Host>(host: &H, daemon: &Daemon, listener: &Listener) {
     thread::scope(thread::scope_env(), host, |scope| {
+        let mut is_told = false;
         for _ in host.forever() {
             if daemon.stop.is_asked() {
                 break;
             }
-            let Accepted::Client(client) = next_client_making_room(
-                host,
-                daemon.alloc,
-                &daemon.stop,
-                listener,
-                &daemon.controls,
-            ) else {
+            let Some(client) = accept_operator(host, daemon, listener, &mut is_told) else {
                 continue;
             };
             let place = client.place;
@@ -183,4 +178,31 @@ fn accept_control<H: Host>(host: &H, daemon: &Daemon, listener: &Listener) {
             }
         }
     })
+}
+
+// Accepts a control connection, if there is a place for it. Of accepts that fail in a row the first is told
+// of.
+fn accept_operator<H: Host>(
+    host: &H,
+    daemon: &Daemon,
+    listener: &Listener,
+    is_told: &mut bool,
+) -> Option<Client> {
+    let (alloc, controls) = (daemon.alloc, &daemon.controls);
+    match next_client_making_room(host, alloc, &daemon.stop, listener, controls) {
+        Accepted::Client(client) => {
+            *is_told = false;
+            Some(client)
+        }
+        Accepted::Refused(_) => None,
+        Accepted::Failed(error) => {
+            if !*is_told && !daemon.stop.is_asked() {
+                *is_told = true;
+                daemon
+                    .observed
+                    .tell_failed_accept(host, listener.address(), &error);
+            }
+            None
+        }
+    }
 }

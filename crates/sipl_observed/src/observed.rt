@@ -120,13 +120,18 @@ impl Observed {
         self.accepts_fail.store(false, Ordering::SeqCst);
     }
 
-    /// Reports an accept that failed at an address, and why: once until a client has a session.
+    /// Reports an accept of a client that failed at an address, and why: once until a client has a session.
     pub fn tell_unaccepted<R: Wait + Clock>(&self, rt: &R, at: &Address, error: &io::Error) {
         self.clients.unaccepted.fetch_add(1, Ordering::SeqCst);
         if self.accepts_fail.load(Ordering::SeqCst) {
             return;
         }
         self.accepts_fail.store(true, Ordering::SeqCst);
+        self.tell_failed_accept(rt, at, error);
+    }
+
+    /// Reports an accept that failed at an address, and why.
+    pub fn tell_failed_accept<R: Wait + Clock>(&self, rt: &R, at: &Address, error: &io::Error) {
         let line = self.line(Level::Warn, "failed").text("what", "accept");
         let line = self.with_address(line, at);
         self.log.push(rt, self.with_cause(line, error));

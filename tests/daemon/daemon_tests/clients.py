@@ -243,11 +243,40 @@ def waits_while_no_descriptor_is_left(checks: Checks, folder: pathlib.Path) -> N
         for place, other in enumerate(others):
             checks.equal(other.reply(), ["target 1 udp 192.0.2.1 9", "ok find 1"], f"number {place} that waited")
         checks.equal(daemon.stats()["clients"], 6, "clients")
-        told = [it for it in daemon.log() if " what=accept " in it]
+        # (that of control lines may fail too, where it did not wait yet)
+        told = [it for it in daemon.log() if f" what=accept at={daemon.address} " in it]
         cause = f'cause="{os.strerror(errno.EMFILE)} (os error {errno.EMFILE})"'
         checks.equal(told, [f"warn event=failed what=accept at={daemon.address} {cause}"], "what is told of them all")
         checks.expect(not any(" event=lowered " in it for it in daemon.log()), "no lower limit at the start")
         stopped(checks, daemon)
+
+
+@test
+def tells_once_that_no_operator_can_be_accepted(checks: Checks, folder: pathlib.Path) -> None:
+    metrics = f"unix:{folder}/metrics"
+    with started(checks, folder, f'metrics = "{metrics}"') as daemon, contextlib.ExitStack() as stack:
+        cause = f'cause="{os.strerror(errno.EMFILE)} (os error {errno.EMFILE})"'
+        lines = [f"warn event=failed what=accept at={address} {cause}" for address in (daemon.control, metrics)]
+
+        def told() -> list[str]:
+            # (the accept of clients may fail too, where it did not wait yet)
+            return sorted(it for it in daemon.log() if " what=accept at=unix:" in it)
+        for times in 1, 2:
+            has = daemon.descriptors()
+            with daemon.limited(resource.RLIMIT_NOFILE, next(it for it in itertools.count() if it not in has)):
+                # (each accept that waits has taken its descriptor before)
+                controls, scrapers = ([stack.enter_context(Client(it)) for _ in range(2)]
+                                      for it in (daemon.control, metrics))
+                checks.expect(until(lambda: len(told()) >= 2 * times), f"{times}: {told()}")
+                # (an accept is tried each 50 milliseconds)
+                time.sleep(0.3)
+            for client in controls:
+                checks.equal((client.ask("now") or [""])[-1][:6], "ok now", f"{times}: control lines afterwards")
+            for client in scrapers:
+                client.send("GET /healthz HTTP/1.1\r\n\r\n")
+                checks.equal(client.line(), "HTTP/1.1 200 OK\r", f"{times}: a request afterwards")
+        stopped(checks, daemon, 0)
+        checks.equal(told(), sorted(2 * lines), "what is told of them all")
 
 
 @test
