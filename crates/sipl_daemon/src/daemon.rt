@@ -75,7 +75,7 @@ impl Surroundings {
             Clocks::Lines => None,
         };
         let places = Places::new(rt, alloc, settings)?;
-        match Observed::new(alloc, settings, log) {
+        match Observed::new(rt, alloc, settings, log) {
             Ok(observed) => Ok(Surroundings {
                 time,
                 places,
@@ -262,6 +262,11 @@ impl Daemon {
             .count_event(rt, &self.source, number, octets, place);
     }
 
+    /// Whether it goes on where changes can't be written, and they can't: they are refused until they can.
+    pub(crate) fn refuses_changes(&self) -> bool {
+        self.on_failure == OnFailure::Read && self.source.has_failed()
+    }
+
     /// What is counted, as it is now.
     pub(crate) fn figures<R: Files + Wait>(&self, rt: &R) -> Figures {
         let (zones, records, held) = self.totals(rt);
@@ -274,6 +279,7 @@ impl Daemon {
             claimed: self.pages.claimed(),
             waiting: self.pages.waiting(rt) as u64,
             resident: resident(rt, self.alloc),
+            refuses_changes: self.refuses_changes(),
         }
     }
 

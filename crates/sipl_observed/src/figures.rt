@@ -31,6 +31,8 @@ pub struct Figures {
     pub waiting: u64,
     /// How many octets of the process are in memory.
     pub resident: u64,
+    /// Whether changes are refused, since they can't be written.
+    pub refuses_changes: bool,
 }
 
 impl Figures {
@@ -82,11 +84,7 @@ impl Figures {
         self.write_zones(out)?;
         self.write_clients(observed, out)?;
         self.write_pages(counts, out)?;
-        out.gauge(
-            "siploc_resident_bytes",
-            "Octets of the process in memory.",
-            self.resident,
-        )?;
+        self.write_process(observed, out)?;
         out.counter(
             "siploc_log_lines_dropped_total",
             "Lines of the log that were not written.",
@@ -175,6 +173,25 @@ impl Figures {
             "siploc_pages_waiting",
             "Pages of the journal that wait to be claimed.",
             self.waiting,
+        )?;
+        out.gauge(
+            "siploc_changes_refused",
+            "1 while changes are refused, since they can't be written.",
+            u64::from(self.refuses_changes),
+        )
+    }
+
+    // The process.
+    fn write_process(&self, observed: &Observed, out: &mut Exposition) -> Result<(), AllocError> {
+        out.gauge(
+            "siploc_start_time_seconds",
+            "Unix time of the start, in seconds.",
+            observed.started,
+        )?;
+        out.gauge(
+            "siploc_resident_bytes",
+            "Octets of the process in memory.",
+            self.resident,
         )
     }
 }

@@ -9,7 +9,7 @@ use std::alloc::{AllocError, Global};
 use std::io;
 use std::sync::atomic::{AtomicBool, AtomicU64, Ordering};
 use std::sync::{Arc, Wait};
-use std::time::{Clock, Instant};
+use std::time::{Clock, Instant, SystemTime};
 
 /// How many clients there were, and how many had no session, or not any more, for which cause.
 #[derive(Drop)]
@@ -57,6 +57,8 @@ pub struct Observed {
     pub alloc: Global,
     /// The log.
     pub log: Arc<Log, Global>,
+    // The Unix time of the start, in seconds; 0 where the clock can't be read.
+    pub(crate) started: u64,
     /// How many clients there were.
     pub clients: ClientCounts,
     /// From the read of a batch to its replies written, where there are metrics.
@@ -73,7 +75,8 @@ pub struct Observed {
 
 impl Observed {
     /// Nothing was reported yet.
-    pub fn new(
+    pub fn new<R: Clock>(
+        rt: &R,
         alloc: Global,
         settings: &DaemonSettings,
         log: &Arc<Log, Global>,
@@ -90,6 +93,7 @@ impl Observed {
         Ok(Observed {
             alloc,
             log,
+            started: unix_time(rt),
             clients: ClientCounts::new(),
             batches,
             is_open: AtomicBool::new(false),
@@ -216,6 +220,17 @@ impl Observed {
             .number("claimed", claimed)
             .number("waiting", waiting);
         self.log.push(rt, line);
+    }
+}
+
+// The Unix time, in seconds; 0 where the clock can't be read.
+fn unix_time<R: Clock>(rt: &R) -> u64 {
+    let Ok(now) = SystemTime::now(rt) else {
+        return 0;
+    };
+    match now.duration_since(SystemTime::UNIX_EPOCH) {
+        Ok(passed) => passed.as_secs(),
+        Err(_) => 0,
     }
 }
 

@@ -3,6 +3,7 @@
 from __future__ import annotations
 
 import contextlib
+import errno
 import pathlib
 import re
 import socket
@@ -10,6 +11,7 @@ import time
 from typing import Optional
 
 from daemon_tests.support import PATIENCE, TOP, Checks, Client, Daemon, connect, started, stopped, test, until
+from daemon_tests.syncs import Syncs
 
 ZONE = "zone example.com. 2\n@ A 192.0.2.1\nw A 192.0.2.2\n"
 SAMPLE = re.compile(r'([a-z_]+)(\{[a-z]+="[^"]*"\})? ([0-9.]+)')
@@ -74,6 +76,7 @@ def shows_its_metrics(checks: Checks, folder: pathlib.Path) -> None:
             checks.equal(sum(stats[it] for it in ("targets", "NoAddress", "NotAvailable", "NoTransport", "AllHeld")), 4,
                          "answers")
             checks.equal(page.value("siploc_zones"), 1, "zones")
+            checks.equal(page.value("siploc_changes_refused"), 0, "changes refused")
             checks.expect(page.value("siploc_resident_bytes") > 1 << 20, "resident")
             checks.expect(page.value("siploc_events_total") >= 6, "events")
             checks.equal(page.value("siploc_batch_seconds_count"), 6, "batches")
@@ -104,6 +107,38 @@ def its_metrics_are_those_of_the_document(checks: Checks, folder: pathlib.Path) 
         ends = re.findall(r'^siploc_finds_total\{end="(\w+)"\}', page.text, re.M)
         checks.equal(ends, re.findall(r"`(\w+)`", rows[0][1].partition("(")[2].partition(")")[0]), "ends")
         stopped(checks, daemon, 0)
+
+
+@test
+def shows_when_it_was_started(checks: Checks, folder: pathlib.Path) -> None:
+    begin = int(time.time())
+    with started(checks, folder, 'metrics = "127.0.0.1:0"') as daemon:
+        ready = time.time()
+        address = metrics_of(daemon)
+        time.sleep(1.1)
+        found = Page(address).value("siploc_start_time_seconds")
+        checks.expect(begin <= found <= ready, (begin, found, ready))
+        stopped(checks, daemon, 0)
+
+
+@test
+def shows_while_changes_are_refused(checks: Checks, folder: pathlib.Path) -> None:
+    syncs, settings = Syncs(folder), f'state = "{folder}/state"\non_failure = "read"\nmetrics = "127.0.0.1:0"'
+    with started(checks, folder, settings, environment=syncs.environment) as daemon, \
+            Client(daemon.address) as client, Client(daemon.address) as other:
+        address, line = metrics_of(daemon), "add c.example.com. A 192.0.2.3"
+
+        def refused() -> float:
+            return Page(address).value("siploc_changes_refused")
+        checks.equal(client.ask("zone example.com. 1\na A 192.0.2.1"), ["ok zone 1 0 0 1"], "zone")
+        checks.equal(refused(), 0, "before")
+        syncs.fail("sync", errno.ENOSPC)
+        checks.equal(client.ask("add b.example.com. A 192.0.2.2"), None, "reply to a change that failed")
+        checks.equal((other.ask(line), refused()), (["err D2"], 1), "meanwhile")
+        syncs.fail("sync", 0)
+        checks.expect(until(lambda: refused() == 0), "for ever")
+        checks.expect((other.ask(line) or [""])[-1].startswith("ok "), "a change afterwards")
+        stopped(checks, daemon)
 
 
 @test

@@ -10,7 +10,6 @@ use sipl_choice::Endpoint;
 use sipl_evidence::Evidence;
 use sipl_lines::{Desk, ServiceDesk};
 use sipl_service::Pass;
-use sipl_settings::OnFailure;
 use sipl_srv::Draws;
 use sipl_uri::Question;
 use std::alloc::Global;
@@ -105,7 +104,7 @@ impl<'a, R: Wait + Clock> SessionDesk<'a, R> {
     fn check_kept(&self) -> Result<(), DeskFault>
         ensures { IfErr result (λ fault. fault ≡ NotKept) }
     {
-        if self.daemon.on_failure == OnFailure::Read && self.daemon.source.has_failed() {
+        if self.daemon.refuses_changes() {
             Err(DeskFault::NotKept)
         } else {
             Ok(())
