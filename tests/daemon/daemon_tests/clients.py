@@ -15,6 +15,7 @@ import runpy
 import select
 import signal
 import socket
+import threading
 import time
 import types
 from typing import Any, Iterator
@@ -173,12 +174,12 @@ def bounds_its_descriptors(checks: Checks, folder: pathlib.Path) -> None:
             wanted = [["ok repair"]] if place < 32 else [["err Busy"], None]
             checks.expect((got := client.reply()) in wanted, f"number {place} of 150: {got}")
         checks.equal(daemon.stats()["clients"], 32, "clients of 64 descriptors")
-        told = [it for it in daemon.log() if " event=lowered " in it]
+        told = until(lambda: [it for it in daemon.log() if " event=lowered " in it])
         checks.equal(told, ["warn event=lowered what=clients from=512 to=32"], "what is told of that")
         checks.equal(clients[1].ask("hold udp 192.0.2.1 5060 1000000"), ["ok hold"], "a change while no place is left")
         for client in clients:
             client.stream.close()
-        until(lambda: daemon.stats()["clients"] == 0)
+        checks.expect(until(lambda: daemon.stats()["clients"] == 0), f"places of the 150, {daemon.stats()}")
         with Client(daemon.address) as client:
             checks.equal(client.ask("release udp 192.0.2.1 5060"), ["ok release"], "after the 150 have left")
         stopped(checks, daemon)
@@ -244,7 +245,7 @@ def waits_while_no_descriptor_is_left(checks: Checks, folder: pathlib.Path) -> N
             checks.equal(other.reply(), ["target 1 udp 192.0.2.1 9", "ok find 1"], f"number {place} that waited")
         checks.equal(daemon.stats()["clients"], 6, "clients")
         # (that of control lines may fail too, where it did not wait yet)
-        told = [it for it in daemon.log() if f" what=accept at={daemon.address} " in it]
+        told = until(lambda: [it for it in daemon.log() if f" what=accept at={daemon.address} " in it])
         cause = f'cause="{os.strerror(errno.EMFILE)} (os error {errno.EMFILE})"'
         checks.equal(told, [f"warn event=failed what=accept at={daemon.address} {cause}"], "what is told of them all")
         checks.expect(not any(" event=lowered " in it for it in daemon.log()), "no lower limit at the start")
@@ -356,10 +357,11 @@ def never_reading(checks: Checks, daemon: Daemon, address: str, hosts: int = 1) 
     def waits() -> bool:
         """Sends on, and returns whether nothing is taken, and no question answered, for two seconds."""
         nonlocal place
-        while polled(slow.stream, select.POLLOUT):
+        while polled(slow.stream, select.POLLOUT) and not slow.is_hung_up():
             place += slow.stream.send(questions[place:], socket.MSG_DONTWAIT)
             place %= len(questions)
-        return stands_still(daemon) and not polled(slow.stream, select.POLLOUT)
+        # (while others are filled it may have been ended)
+        return slow.is_hung_up() or stands_still(daemon) and not polled(slow.stream, select.POLLOUT)
 
     # The system takes some megabytes of replies before a write has to wait.
     checks.expect(until(waits, 6 * PATIENCE), "it is never waited for")
@@ -389,7 +391,8 @@ def closes_a_client_that_takes_no_reply(checks: Checks, folder: pathlib.Path) ->
     # Over TCP the system takes more of the replies meanwhile, and the thirty seconds begin anew.
     unix, begin = f"unix:{folder}/s", time.monotonic()
     with started(checks, folder, "journal = 10000", unix=unix) as daemon, never_reading(checks, daemon, unix):
-        checks.equal(daemon.stats()["clients"], 1, "clients")
+        # (the one that loaded the zone may not have left yet)
+        checks.expect(until(lambda: daemon.stats()["clients"] == 1), f"clients, {daemon.stats()}")
         checks.expect(until(lambda: daemon.stats()["clients"] == 0, 30 + PATIENCE), "never closed")
         # It has thirty seconds, from its last question on that was answered.
         checks.expect(time.monotonic() - begin > 30, f"closed after {time.monotonic() - begin:.0f} seconds")
@@ -398,13 +401,17 @@ def closes_a_client_that_takes_no_reply(checks: Checks, folder: pathlib.Path) ->
 
 @test
 def gives_up_a_client_that_takes_its_replies_slowly(checks: Checks, folder: pathlib.Path) -> None:
-    def use(address: str, hosts: int, octets: int, pause: float) -> tuple[float, float]:
+    # None takes anything before all are seen to wait: what one takes is an event, by which the others seem to go on.
+    all_wait = threading.Barrier(3, timeout=7 * PATIENCE)
+
+    def use(address: str, hosts: int, octets: int, pause: float, most: int) -> tuple[float, float]:
         """Takes so many octets at a time, with a pause after each: how many seconds after the first question the server
         has ended it, and how many after it was seen to wait."""
         begin = time.monotonic()
         with never_reading(checks, daemon, address, hosts) as slow, contextlib.suppress(OSError):
+            all_wait.wait()
             waits = time.monotonic()
-            while not slow.is_hung_up() and time.monotonic() < waits + 120 and slow.stream.recv(octets):
+            while not slow.is_hung_up() and time.monotonic() < waits + most + PATIENCE and slow.stream.recv(octets):
                 until(slow.is_hung_up, pause)
         return time.monotonic() - begin, time.monotonic() - waits
 
@@ -413,9 +420,9 @@ def gives_up_a_client_that_takes_its_replies_slowly(checks: Checks, folder: path
         # They have thirty seconds. Over TCP the system takes some megabytes more meanwhile. At a Unix socket it frees
         # some kilobytes at a time: the last client gets none, and so takes nothing.
         with concurrent.futures.ThreadPoolExecutor(3) as pool:
-            works = {"over TCP": (75, pool.submit(use, daemon.address, 4, 4_096, 0.2)),
-                     "at a Unix socket": (30, pool.submit(use, unix, 5, 4_096, 0.2)),
-                     "of a Unix socket's nothing": (30, pool.submit(use, unix, 1, 100, 1))}
+            works = {"over TCP": (75, pool.submit(use, daemon.address, 4, 4_096, 0.2, 75)),
+                     "at a Unix socket": (30, pool.submit(use, unix, 5, 4_096, 0.2, 30)),
+                     "of a Unix socket's nothing": (30, pool.submit(use, unix, 1, 100, 1, 30))}
         for name, (most, work) in works.items():
             least, seen = work.result()
             checks.expect(least >= 30, f"ended after {least:.1f} seconds {name}")
@@ -436,7 +443,7 @@ def a_process_that_is_stopped_and_goes_on_ends_no_session(checks: Checks, folder
             daemon.process.send_signal(signal.SIGCONT)
             time.sleep(0.05)
 
-    with started(checks, folder, "idle = 60", unix=unix) as daemon, contextlib.ExitStack() as stack:
+    with started(checks, folder, "idle = 600", unix=unix) as daemon, contextlib.ExitStack() as stack:
         clients = [stack.enter_context(Client(address)) for address in daemon.addresses[:-1]]
         for client in clients:
             checks.equal(client.ask("repair"), ["ok repair"], "before")
@@ -459,12 +466,13 @@ def a_process_that_is_stopped_and_goes_on_ends_no_session(checks: Checks, folder
 @test
 def closes_clients_that_send_nothing(checks: Checks, folder: pathlib.Path) -> None:
     with started(checks, folder,
-                 "idle = 5") as daemon, Client(daemon.address) as silent, Client(daemon.address) as lively:
+                 "idle = 10") as daemon, Client(daemon.address) as lively:
         begin = time.monotonic()
-        for _ in range(14):
-            checks.equal(lively.ask("repair"), ["ok repair"], "of one that sends")
-            time.sleep(0.5)
-        checks.expect(silent.is_ended() and time.monotonic() - begin >= 5, "of one that is silent")
+        with Client(daemon.address) as silent:
+            while not silent.has_reply() and time.monotonic() < begin + 10 + PATIENCE:
+                checks.equal(lively.ask("repair"), ["ok repair"], "of one that sends")
+                time.sleep(0.5)
+            checks.expect(silent.is_ended() and time.monotonic() - begin >= 10, "of one that is silent")
         checks.equal(lively.ask("repair"), ["ok repair"], "of one that sends")
         stopped(checks, daemon, 0)
 

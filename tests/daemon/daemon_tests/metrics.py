@@ -58,9 +58,11 @@ def shows_its_metrics(checks: Checks, folder: pathlib.Path) -> None:
     with started(checks, folder, 'metrics = "127.0.0.1:0"') as daemon:
         address = metrics_of(daemon)
         with Client(daemon.address) as client:
-            for line in (ZONE, "hold tcp 192.0.2.9 5060 60000", "find sip:w.example.com", "find sip:none.example.com",
+            for line in (ZONE, "hold tcp 192.0.2.9 5060 3600000", "find sip:w.example.com", "find sip:none.example.com",
                          "find sip:w.example.com;transport=sctp", "find sip:192.0.2.9:5060;transport=tcp"):
                 checks.expect(client.ask(line), line)
+            # (a batch is counted after its replies)
+            until(lambda: Page(address).value("siploc_batch_seconds_count") == 6)
             page, stats = Page(address), daemon.stats()
             checks.equal(page.status, "HTTP/1.1 200 OK", "status")
             checks.equal(page.fields.get("content-type"), "text/plain; version=0.0.4; charset=utf-8", "type")
@@ -143,7 +145,7 @@ def shows_while_changes_are_refused(checks: Checks, folder: pathlib.Path) -> Non
 
 @test
 def counts_clients_by_cause(checks: Checks, folder: pathlib.Path) -> None:
-    with started(checks, folder, 'metrics = "127.0.0.1:0"\nclients = 1\nidle = 1') as daemon:
+    with started(checks, folder, 'metrics = "127.0.0.1:0"\nclients = 1\nidle = 10') as daemon:
         address = metrics_of(daemon)
         with Client(daemon.address) as client:
             client.ask("repair")
@@ -255,10 +257,9 @@ def asked_once_it_stops(checks: Checks, folder: pathlib.Path) -> list[str]:
                     client.send("find sip:example.com\n" * 2_000)
             with Client(daemon.control) as control, contextlib.suppress(OSError, ValueError):
                 control.send("stop\n")
-                control.reply()
-                for _ in range(200):
+                end = time.monotonic() + PATIENCE
+                while time.monotonic() < end:
                     seen.append(get(address, "/healthz")[0])
-                    time.sleep(0.02)
         checks.equal(daemon.end()[0], 0, "its status")
     return seen
 
@@ -266,7 +267,7 @@ def asked_once_it_stops(checks: Checks, folder: pathlib.Path) -> list[str]:
 @test
 def is_not_healthy_once_it_stops(checks: Checks, folder: pathlib.Path) -> None:
     # (a busy machine may take the second that there is for it)
-    tries = [asked_once_it_stops(checks, folder)]
-    while "HTTP/1.1 503 Service Unavailable" not in tries[-1] and len(tries) < 5:
+    tries, end = [asked_once_it_stops(checks, folder)], time.monotonic() + 2 * PATIENCE
+    while "HTTP/1.1 503 Service Unavailable" not in tries[-1] and time.monotonic() < end:
         tries.append(asked_once_it_stops(checks, folder))
     checks.expect("HTTP/1.1 503 Service Unavailable" in tries[-1], [seen[-3:] for seen in tries])

@@ -42,9 +42,9 @@ def stands_again_after_a_stop(checks: Checks, folder: pathlib.Path) -> None:
         checks.equal(client.ask("zone gone.example. 1\n@ A 192.0.2.8"), ["ok zone 1 0 0 1"], "zone")
         checks.equal(client.ask("zone empty.example. 0"), ["ok zone 0 0 0 0"], "zone")
         checks.equal(client.ask("drop gone.example."), ["ok drop 1"], "drop")
-        checks.equal(client.ask("hold tcp 192.0.2.1 5060 60000"), ["ok hold"], "hold")
-        checks.equal(client.ask("hold tcp 192.0.2.2 5060 1500"), ["ok hold"], "hold")
+        checks.equal(client.ask("hold tcp 192.0.2.1 5060 3600000"), ["ok hold"], "hold")
         begin = time.monotonic()
+        checks.equal(client.ask("hold tcp 192.0.2.2 5060 1500"), ["ok hold"], "hold")
         answers = [client.ask(line) for line in asked]
         stopped(checks, daemon)
     with started(checks, folder, state) as daemon, Client(daemon.address) as client:
@@ -194,6 +194,9 @@ def writes_a_state_at_a_page(checks: Checks, folder: pathlib.Path) -> None:
                 time.sleep(0.01)
         return count
 
+    def is_written() -> bool:
+        return body_of(state.read_bytes()) != b"# page 0\n"
+
     def kill_at(daemon: Daemon, is_so: Callable[[], bool], seconds: float) -> None:
         try:
             until(is_so)
@@ -211,9 +214,9 @@ def writes_a_state_at_a_page(checks: Checks, folder: pathlib.Path) -> None:
             checks.equal([client.reply() for _ in range(50)], [answer] * 50, "questions")
         checks.expect(until(lambda: daemon.stats()["pages"] >= 1), "a page")
         checks.equal(state.read_bytes(), state_of(b"# page 0\n"), "a state after a page, while the log is short")
-        # (once the log has a megabyte the page is turned at once)
-        while body_of(state.read_bytes()) == b"# page 0\n" and log.stat().st_size < 4 << 20 and steps.make(client):
-            pass
+        # (once the log has a megabyte the page is turned at once: no more is made before the state is written)
+        while not is_written() and log.stat().st_size < 4 << 20 and steps.make(client):
+            until(is_written, 1 if log.stat().st_size > 1 << 20 else 0)
         checks.expect(until(lambda: body_of(state.read_bytes()).startswith(b"# page 1\n")), "no state at a page")
         checks.expect(until(lambda: log.stat().st_size < 1 << 20),
                       f"{log.stat().st_size} octets of a log after a state")

@@ -23,7 +23,7 @@ TOP = pathlib.Path(__file__).resolve().parent.parent.parent.parent
 PROGRAM = os.environ["PROGRAM"]
 SEED = int(os.environ.get("SEED", "1"))
 # What a busy machine may need for what takes no time; nothing is measured here.
-PATIENCE = int(os.environ.get("PATIENCE", "20"))
+PATIENCE = int(os.environ.get("PATIENCE", "60"))
 FOR_EVER = 1 << 40
 ENDS = (b"ok", b"none", b"err")
 # How a line of the log begins.

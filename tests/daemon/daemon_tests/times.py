@@ -17,7 +17,8 @@ def a_hold_ends_by_itself(checks: Checks, folder: pathlib.Path) -> None:
         checks.equal(client.ask("hold udp 192.0.2.1 5060 3000"), ["ok hold"], "hold")
         # (by another client, which types nothing but the question)
         with Client(daemon.address) as other:
-            checks.equal(other.ask(question), ["none AllHeld"], "held")
+            answer = other.ask(question)
+            checks.expect(answer == ["none AllHeld"] or time.monotonic() - begin >= 3, f"held: {answer}")
             checks.expect(until(lambda: other.ask(question) == target), "held for ever")
         checks.expect(time.monotonic() - begin >= 3, f"held for {time.monotonic() - begin:.3f} seconds of 3")
         checks.equal(client.ask("clock 1"), ["err D1"], "clock")
