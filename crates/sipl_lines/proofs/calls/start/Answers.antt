@@ -11,8 +11,8 @@ start-requires-clause-targets c =
 
 pub returns-in-Ok-clause-done : goal.returns-in-Ok-clause-done
 returns-in-Ok-clause-done c =
-    opened c.args.kind c.args.base c.args.now c.args.targets.now c.first_targets.result.items c.args.call.now c.in-Ok.failover c.in-Ok.steps c.args.out.now.items c.write_steps.new.out.items c.write_counts.new.out.items
+    opened c.args.kind c.args.base c.args.now c.args.targets.now c.first_targets.result.items c.args.call.now c.in-Ok.failover c.in-Ok.steps c.args.out.now.items c.write_steps.new.out.items c.write_done.new.out.items
     c.first_targets.ensures c.in-Ok.ensures.run c.in-Ok.ensures.steps
     (λ none. search rules)
     (c.write_steps.ensures.ok ∙ ap (λ steps. c.args.out.now.items ++ steps_text c.in-Ok.failover steps) c.as_slice.ensures.value)
-    c.write_counts.ensures.ok
+    c.write_done.ensures.ok
