@@ -24,12 +24,12 @@ use Rattle.sipl_book.specs.declared.event.Event.{Event}
 use Rattle.sipl_book.specs.declared.event.Event.TheVariants.{Change, Hold, Release, Advance, Answer as Answered}
 use Rattle.sipl_book.specs.declared.outcome.Done.{Done}
 use Rattle.sipl_book.specs.declared.outcome.Handed.{Handed}
-use Rattle.sipl_lines.specs.Commands.{AnswersUri, Edits, Refuses, Unloads}
+use Rattle.sipl_lines.specs.Commands.{AnswersUri, Asked, Asks, Unloads, edits as asks_edit, refused_with}
 use Rattle.sipl_lines.specs.Items.{end_of_input, items_of, line}
 use Rattle.sipl_lines.specs.Replies.{Serves}
 use Rattle.sipl_lines.specs.ReplyText.{answer_text, counts_line}
 use Rattle.sipl_lines.specs.Requests.{request_of}
-use Rattle.sipl_lines.specs.Session.{AtDesk, Performs, SessionState, new_session, session_protocol, with_desk}
+use Rattle.sipl_lines.specs.Session.{AtDesk, Performs, SessionState, new_session, session_protocol}
 use Rattle.sipl_archive.specs.Commands.{after_command, edits, first_line, is_find, moves, taken_by_fields}
 use Rattle.sipl_archive.specs.Plain.{MakesEdit, MakesMove, PlainState, plain_rules}
 use Rattle.sipl_archive.specs.Replay.{Repeats, is_expected}
@@ -88,9 +88,9 @@ abbrev handed : Answer → Handed
 handed answer = record { number = 0; answer = answer }
 
 -- the record of a text is added or removed
-abbrev Reads : Octets → (Record → Edit) → Result Record ZoneFault → PlainState → Octets → PlainState → Type 0
-Reads words edit (Err fault) before text after = Refuses (zone_code fault) before text after
-Reads words edit (Ok r) before text after = Edits plain_rules words [] (edit r) before text after
+abbrev record_asked : Octets → (Record → Edit) → Result Record ZoneFault → Asked
+record_asked words edit (Err fault) = refused_with (zone_code fault)
+record_asked words edit (Ok r) = asks_edit words [] (edit r)
 
 hold-command : (a b c : Octets) → a ++ b ++ c ++ 10 ∷ [] ≡ (a ++ (b ++ c)) ++ 10 ∷ []
 hold-command a b c = simp append_assoc
@@ -113,10 +113,10 @@ module _ (reads : Readers) (before : PlainState) where
       subst (λ read. AtDesk (Unloads plain_rules read) (at before) (told (Change (Unload apex))) (at (edited (Unload apex) before))) (sym (name_of-text_of apex [] is))
       ((Ok nothing_changed, makes-edit (Unload apex) before nothing_changed accepts, refl), refl)
   performs (Change (Add r)) is none accepts =
-      subst (λ read. Reads (codes "ok add") (λ one. Add one) read before (told (Change (Add r))) (edited (Add r) before) × (at (edited (Add r) before) ≡ with_desk (edited (Add r) before) (at before))) (sym (reads.records r [] is))
+      subst (λ read. AtDesk (Asks plain_rules (record_asked (codes "ok add") (λ one. Add one) read)) (at before) (told (Change (Add r))) (at (edited (Add r) before))) (sym (reads.records r [] is))
       ((Ok nothing_changed, makes-edit (Add r) before nothing_changed accepts, refl), refl)
   performs (Change (Remove r)) is none accepts =
-      subst (λ read. Reads (codes "ok del") (λ one. Remove one) read before (told (Change (Remove r))) (edited (Remove r) before) × (at (edited (Remove r) before) ≡ with_desk (edited (Remove r) before) (at before))) (sym (reads.records r [] is))
+      subst (λ read. AtDesk (Asks plain_rules (record_asked (codes "ok del") (λ one. Remove one) read)) (at before) (told (Change (Remove r))) (at (edited (Remove r) before))) (sym (reads.records r [] is))
       ((Ok nothing_changed, makes-edit (Remove r) before nothing_changed accepts, refl), refl)
   performs (Hold endpoint ms) is none accepts = ((Ok 0, makes-move (HoldFor endpoint ms) before accepts, refl), refl)
   performs (Release endpoint) is none accepts = ((Ok 0, makes-move (ReleaseOf endpoint) before accepts, refl), refl)

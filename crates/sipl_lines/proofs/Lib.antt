@@ -9,6 +9,7 @@ pub mod Words
 pub mod InOrder
 pub mod Listening
 pub mod Rows
+pub mod DeskCalls
 pub mod Seen
 pub mod Plain
 pub mod OneReply

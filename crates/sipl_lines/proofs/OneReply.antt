@@ -1,191 +1,45 @@
 -- A session at the plain machine: where no allocation fails, each item has one reply and leaves one state.
-use Rattle.std.proofs.Common.{◌≡◌, ◌⊎◌, ℕ, List, [], ◌∷◌, ◌++◌, Bool, true, false, Option, None, Some, Result, Ok, Err, ◌==◌, length, map, refl, sym, ap, ◌∙◌, subst, inl, inr, append_assoc, codes}
-use Rattle.std.specs.Prelude.{option_map}
-use lib.ListN.{length-map}
+use Rattle.std.proofs.Common.{◌≡◌, ◌⊎◌, ℕ, List, [], ◌∷◌, ◌++◌, Bool, true, false, Option, None, Some, Result, Ok, Err, ◌==◌, refl, sym, ap, ◌∙◌, subst, inl, inr, append_assoc, codes}
 use Rattle.std.specs.Bool.{OnTrue, OnFalse}
-use Rattle.std.specs.List.{flat_map}
-use Rattle.sipl_names.specs.Labels.{Octets, Labels}
-use Rattle.sipl_names.specs.NameText.{name_of}
-use Rattle.sipl_names.specs.NamePrint.{text_of}
-use Rattle.sipl_names.specs.declared.fault.InvalidName.{InvalidName}
-use Rattle.sipl_records.specs.Kinds.{text_of_kind}
-use Rattle.sipl_records.specs.declared.data.Data.{Data}
-use Rattle.sipl_records.specs.declared.fault.AddressFault.{AddressFault}
-use Rattle.sipl_records.specs.declared.record.Key.{Key}
-use Rattle.sipl_records.specs.declared.record.Record.{Record}
-use Rattle.sipl_masterfile.specs.Zones.{Zone, zone_of}
-use Rattle.sipl_masterfile.specs.RecordText.{record_of}
-use Rattle.sipl_masterfile.specs.declared.fault.ZoneFault.{ZoneFault}
+use Rattle.sipl_names.specs.Labels.{Octets}
 use Rattle.sipl_choice.specs.declared.endpoint.Endpoint.{Endpoint}
 use Rattle.sipl_srv.specs.declared.fault.DrawsFault.{DrawsFault}
-use Rattle.sipl_uri.specs.Uris.{question_of}
 use Rattle.sipl_uri.specs.declared.fault.UriFault.{UriFault}
 use Rattle.sipl_uri.specs.declared.question.Question.{Question}
-use Rattle.sipl_evidence.specs.Items.{Item as Evidence}
-use Rattle.sipl_outages.specs.Holds.{BoardEvent}
 use Rattle.sipl_outages.specs.Holds.BoardEvent.{Hold, Advance}
 use Rattle.sipl_plans.specs.declared.answer.Answer.{Answer}
 use Rattle.sipl_plans.specs.declared.answer.Answer.TheVariants.{Targets, None as NoTarget}
 use Rattle.sipl_tx.specs.declared.parts.Kind.{Kind}
 use Rattle.sipl_failover.specs.FailoverRun.{FailoverRun, Event, has_ended}
-use Rattle.sipl_failover.specs.FailoverRun.Event.{Received, Ticked, TransportFailed}
+use Rattle.sipl_failover.specs.FailoverRun.Event.{Ticked}
 use Rattle.sipl_failover.specs.Rules.{after as after_event, refusal_of}
 use Rattle.sipl_failover.specs.declared.fault.FailoverFault.{FailoverFault}
 use Rattle.sipl_failover.specs.declared.step.Step.{Step}
-use Rattle.sipl_book.specs.declared.edit.Edit.{Edit}
-use Rattle.sipl_book.specs.declared.edit.Edit.TheVariants.{Load, Unload}
 use Rattle.sipl_book.specs.declared.fault.BookFault.{BookFault}
 use Rattle.sipl_book.specs.declared.fault.BookFault.TheVariants.{Memory}
 use Rattle.sipl_book.specs.declared.outcome.Handed.{Handed}
-use Rattle.sipl_lines.specs.declared.desk_commands.HoldChange.{HoldChange}
-use Rattle.sipl_lines.specs.declared.desk_commands.HoldChange.TheVariants as change
-use Rattle.sipl_lines.specs.declared.desk_commands.RecordEdit.{RecordEdit}
-use Rattle.sipl_lines.specs.declared.desk_commands.RecordEdit.TheVariants.{Add as AddRecord, Remove as RemoveRecord}
-use Rattle.sipl_lines.specs.declared.gather.Gathered.{Gathered}
-use Rattle.sipl_lines.specs.declared.gather.Gathered.TheVariants.{Lines, BadApex, LongLine, Lost}
 use Rattle.sipl_lines.specs.declared.gather.Gathering.{Gathering}
-use Rattle.sipl_lines.specs.Commands.{Keeps, Refuses, Fails, Does, Loads, Unloads, EditsRecord, record_words, record_edit, changed_text, Edits, Answers, AnswersUri, Lists, ListsUri, Repairs, TurnsPage, page_text, MovesTo, ChangesHold, change_words, change_event, handed_text, result_text}
-use Rattle.sipl_lines.specs.Calls.{CallDesk, with_call, hold_in, MakesHold, Reports, GoesOn, Hears, HearsOf, Ticks, TellsTime, SetsClock, OpensOver, Opens, OpensFor, is_open, CallsTargets, CallsUnlessOpen, CallsUri, steps_text}
-use Rattle.sipl_lines.specs.Gathering.{gathering_of, after_line, at_end, lost, keeps_lines}
+use Rattle.sipl_lines.specs.Commands.{Keeps, Asks, moves, CallAct, hear, set_clock, open_call, Act, says, takes_zone, asks, in_call, quits, task_of}
+use Rattle.sipl_lines.specs.Calls.{CallDesk, with_call, hold_in, DoesInCall, MakesHold, Reports, GoesOn, Hears, Ticks, TellsTime, SetsClock, OpensOver, Opens, OpensFor, is_open, CallsTargets, CallsUnlessOpen, CallsUri, steps_text}
+use Rattle.sipl_lines.specs.Gathering.{gathering_of, after_line, at_end, lost}
 use Rattle.sipl_lines.specs.Items.{Item, line, end_of_input}
 use Rattle.sipl_lines.specs.OneReply.{AreEqualOrLost, EndsInMemory, with_lines_lost}
-use Rattle.sipl_lines.specs.PlainDesk.{Ending, EndsSo, PlainState, change_ending, find_ending, move_ending, page_ending, plain_rules, sets_listed, sets_read}
-use Rattle.sipl_lines.specs.ReplyText.{counts_line, evidence_line, evidence_text, number_field, refusal_line, word_field}
-use Rattle.sipl_lines.specs.Requests.{Request, nothing, unknown, too_long, zone, drop, add, del, find, deps, repair, page, hold, release, clock, call, got, broke, quit, request_of}
-use Rattle.sipl_lines.specs.Session.{SessionState, with_desk, with_gathering, AtCall, AtDesk, Gathers, GathersOrLoses, LoadsGathered, MayReply, Obeys, Performs, TakesEnd, TakesItem, TakesLine}
-
--- what is done in a state has one text and leaves one state, where no allocation fails
-abbrev HasOne : {S : Type 0} → (S → Octets → S → Type 0) → Type 0
-HasOne {S} Acts = (before : S) (t u : Octets) (a b : S) → Acts before t a → Acts before u b → (EndsInMemory t → ⊥) → (EndsInMemory u → ⊥) → (t ≡ u) × (a ≡ b)
-
-keeps : {S : Type 0} (reply : Octets) → HasOne {S = S} (Keeps reply)
-keeps reply before t u a b kept kept' well well' = (kept.0 ∙ sym kept'.0, kept.1 ∙ sym kept'.1)
+use Rattle.sipl_lines.specs.PlainDesk.{PlainState, find_ending, move_ending, plain_rules}
+use Rattle.sipl_lines.specs.ReplyText.{counts_line, refusal_line}
+use Rattle.sipl_lines.specs.Requests.{Request, request_of}
+use Rattle.sipl_lines.specs.Session.{SessionState, with_desk, with_gathering, AtCall, AtDesk, Gathers, GathersOrLoses, LoadsGathered, gathered_asked, DoesAct, MayReply, Obeys, TakesEnd, TakesItem, TakesLine}
+use Rattle.sipl_lines.proofs.DeskCalls.{HasOne, asks_one, ends_one, same_reply}
 
 -- of two facts of a case the same one is known
 split : {P P' Q Q' R : Type 0} (b : Bool) → (P → P' → R) → (Q → Q' → R) → OnTrue b P × OnFalse b Q → OnTrue b P' × OnFalse b Q' → R
 split true so otherwise first second = so first.0 second.0
 split false so otherwise first second = otherwise first.1 second.1
 
--- ---- what a desk does
-
--- a call that does not fail for memory has one result, and leaves one state
-abbrev IsOne : {A : Type 0} → (PlainState → Result A BookFault → PlainState → Type 0) → Type 0
-IsOne {A} Acts = (before : PlainState) (o p : Result A BookFault) (a b : PlainState) → Acts before o a → Acts before p b → (o ≡ Err Memory → ⊥) → (p ≡ Err Memory → ⊥) → (o ≡ p) × (a ≡ b)
-
-ends_one : {A : Type 0} (ending : PlainState → Ending A) → IsOne (λ before outcome after. EndsSo (ending before) before outcome after)
-ends_one ending before o p a b (inl is) (inl is') well well' = (is.0 ∙ sym is'.0, is.1 ∙ sym is'.1)
-ends_one ending before o p a b (inl is) (inr failed) well well' = absurd (well' failed.1)
-ends_one ending before o p a b (inr failed) is well well' = absurd (well failed.1)
-
-does : {A : Type 0} (Acts : PlainState → Result A BookFault → PlainState → Type 0) (reply_of : A → Octets) → IsOne Acts → HasOne (Does plain_rules Acts reply_of)
-does Acts reply_of one before t u a b done done' well well' =
-    let told = one before done.0 done'.0 a b done.1 done'.1
-    (λ failed. well ([], done.2 ∙ ap (result_text plain_rules reply_of) failed))
-    (λ failed. well' ([], done'.2 ∙ ap (result_text plain_rules reply_of) failed)) in
-    (done.2 ∙ ap (result_text plain_rules reply_of) told.0 ∙ sym done'.2, told.1)
-
-edits : (words : Octets) (counts : List ℕ) (edit : Edit) → HasOne (Edits plain_rules words counts edit)
-edits words counts edit = does (plain_rules.Changes edit) (changed_text words counts) (ends_one (change_ending edit))
-
-loads : (read : Result Zone ZoneFault) → HasOne (Loads plain_rules read)
-loads (Err fault) before t u a b kept kept' well well' = (kept.0 ∙ sym kept'.0, kept.1 ∙ sym kept'.1)
-loads (Ok loaded) before t u a b done done' well well' =
-    edits (codes "ok zone") (length loaded.records ∷ loaded.outside ∷ loaded.repeated ∷ []) (Load loaded) before t u a b done done' well well'
-
-unloads : (name : Result Labels InvalidName) → HasOne (Unloads plain_rules name)
-unloads (Err fault) before t u a b kept kept' well well' = (kept.0 ∙ sym kept'.0, kept.1 ∙ sym kept'.1)
-unloads (Ok apex) before t u a b done done' well well' = edits (codes "ok drop") [] (Unload apex) before t u a b done done' well well'
-
-edits_record : (kind : RecordEdit) (r : Result Record ZoneFault) → HasOne (EditsRecord plain_rules kind r)
-edits_record kind (Err fault) before t u a b kept kept' well well' = (kept.0 ∙ sym kept'.0, kept.1 ∙ sym kept'.1)
-edits_record kind (Ok r) before t u a b done done' well well' = edits (record_words kind) [] (record_edit kind r) before t u a b done done' well well'
-
-answers : (question : Question) (words : List ℕ) → HasOne (Answers plain_rules question words)
-answers question words before t u a b (inl done) (inl done') well well' =
-    does (plain_rules.Finds question words) handed_text (ends_one (find_ending question words)) before t u a b done done' well well'
-answers question words before t u a b (inl done) (inr failed) well well' = absurd (well' ([], failed.3))
-answers question words before t u a b (inr failed) done well well' = absurd (well ([], failed.3))
-
-answers_uri : (asked : Result Question UriFault) (draws : Result (List ℕ) DrawsFault) → HasOne (AnswersUri plain_rules asked draws)
-answers_uri (Err fault) draws before t u a b kept kept' well well' = (kept.0 ∙ sym kept'.0, kept.1 ∙ sym kept'.1)
-answers_uri (Ok question) (Err fault) before t u a b kept kept' well well' = (kept.0 ∙ sym kept'.0, kept.1 ∙ sym kept'.1)
-answers_uri (Ok question) (Ok words) before t u a b done done' well well' = answers question words before t u a b done done' well well'
-
--- ---- the sets that a question depends on: their numbers are not in the reply
-
--- the set of an item of evidence, without its number
-abbrev item_set : Evidence → Key × List Data
-item_set item = (item.key, item.content)
-
--- the sets of evidence
-abbrev sets_of : List Evidence → List (Key × List Data)
-sets_of items = map item_set items
-
-evidence_alike : (items others : List Evidence) → sets_of items ≡ sets_of others → flat_map evidence_line items ≡ flat_map evidence_line others
-evidence_alike [] [] same = refl
-evidence_alike [] (other ∷ others) same = cc
-evidence_alike (item ∷ items) [] same = cc
-evidence_alike (item ∷ items) (other ∷ others) same =
-    let first : item_set item ≡ item_set other = cc in
-    let rest : sets_of items ≡ sets_of others = cc in
-    let same_line : evidence_line item ≡ evidence_line other =
-    λ i. codes "dep" ++ word_field (text_of (first i).0.name) ++ word_field (text_of_kind (first i).0.kind) ++ number_field (length (first i).1) ++ 10 ∷ [] in
-    λ i. same_line i ++ evidence_alike items others rest i
-
-listed_alike : (o p : Result (List Evidence) BookFault) → sets_listed o ≡ sets_listed p → result_text plain_rules evidence_text o ≡ result_text plain_rules evidence_text p
-listed_alike (Ok items) (Ok others) same =
-    let sets : sets_of items ≡ sets_of others = cc in
-    let count : length items ≡ length others = sym (length-map items item_set) ∙ ap length sets ∙ length-map others item_set in
-    λ i. evidence_alike items others sets i ++ counts_line (codes "ok deps") (count i ∷ [])
-listed_alike (Ok items) (Err fault) same = cc
-listed_alike (Err fault) (Ok items) same = cc
-listed_alike (Err fault) (Err other) same =
-    let is : fault ≡ other = cc in
-    ap (λ f. refusal_line (plain_rules.fault_text f)) is
-
-listed_memory : (o : Result (List Evidence) BookFault) → sets_listed o ≡ Err Memory → result_text plain_rules evidence_text o ≡ refusal_line (codes "Memory")
-listed_memory (Ok items) same = cc
-listed_memory (Err fault) same =
-    let is : fault ≡ Memory = cc in
-    ap (λ f. refusal_line (plain_rules.fault_text f)) is
-
-lists : (question : Question) → HasOne (Lists plain_rules question)
-lists question before t u a b (inl done) (inl done') well well' =
-    let told = ends_one (λ plain. (Ok (sets_read question plain), plain)) before (sets_listed done.0) (sets_listed done'.0) a b done.1 done'.1
-    (λ failed. well ([], done.2 ∙ listed_memory done.0 failed)) (λ failed. well' ([], done'.2 ∙ listed_memory done'.0 failed)) in
-    (done.2 ∙ listed_alike done.0 done'.0 told.0 ∙ sym done'.2, told.1)
-lists question before t u a b (inl done) (inr failed) well well' = absurd (well' ([], failed.3))
-lists question before t u a b (inr failed) done well well' = absurd (well ([], failed.3))
-
-lists_uri : (asked : Result Question UriFault) → HasOne (ListsUri plain_rules asked)
-lists_uri (Err fault) before t u a b kept kept' well well' = (kept.0 ∙ sym kept'.0, kept.1 ∙ sym kept'.1)
-lists_uri (Ok question) before t u a b done done' well well' = lists question before t u a b done done' well well'
-
-repairs : HasOne (Repairs plain_rules)
-repairs = does plain_rules.Repairs (λ done. counts_line (codes "ok repair") []) (ends_one (λ plain. (Ok tt, plain)))
-
-turns_page : HasOne (TurnsPage plain_rules)
-turns_page = does plain_rules.Pages page_text (ends_one page_ending)
-
-moves_to : (reply : Octets) (event : BoardEvent) → HasOne (MovesTo plain_rules reply event)
-moves_to reply event = does (plain_rules.Moves event) (λ number. reply) (ends_one (move_ending event))
-
-changes_hold : (change : HoldChange) (endpoint : Result Endpoint AddressFault) → HasOne (ChangesHold plain_rules change endpoint)
-changes_hold change (Err fault) before t u a b kept kept' well well' = (kept.0 ∙ sym kept'.0, kept.1 ∙ sym kept'.1)
-changes_hold change (Ok endpoint) before t u a b done done' well well' =
-    moves_to (counts_line (change_words change) []) (change_event change endpoint) before t u a b done done' well well'
-
-loads_gathered : (gathered : Gathered) → HasOne (LoadsGathered plain_rules gathered)
-loads_gathered Lost before t u a b kept kept' well well' = (kept.0 ∙ sym kept'.0, kept.1 ∙ sym kept'.1)
-loads_gathered LongLine before t u a b kept kept' well well' = (kept.0 ∙ sym kept'.0, kept.1 ∙ sym kept'.1)
-loads_gathered (BadApex fault octets_left) before t u a b kept kept' well well' = (kept.0 ∙ sym kept'.0, kept.1 ∙ sym kept'.1)
-loads_gathered (Lines lines octets_left) before t u a b done done' well well' = loads (zone_of lines.text lines.apex) before t u a b done done' well well'
-
 -- ---- what a command does with the call
 
 makes_hold : (reply : Octets) (asked : Option (Endpoint × ℕ)) → HasOne (MakesHold plain_rules reply asked)
 makes_hold reply None before t u a b kept kept' well well' = (kept.0 ∙ sym kept'.0, kept.1 ∙ sym kept'.1)
-makes_hold reply (Some asked) before t u a b done done' well well' = moves_to reply (Hold asked.0 asked.1) before t u a b done done' well well'
+makes_hold reply (Some asked) before t u a b done done' well well' = asks_one (moves reply (Hold asked.0 asked.1)) before t u a b done done' well well'
 
 -- a text whose last part ends so ends so
 ends_after : (steps last text : Octets) → text ≡ steps ++ last → EndsInMemory last → EndsInMemory text
@@ -212,14 +66,11 @@ hears : (reply : Octets) (event : Event) (heard : Option FailoverRun) → HasOne
 hears reply event None before t u a b kept kept' well well' = (kept.0 ∙ sym kept'.0, kept.1 ∙ sym kept'.1)
 hears reply event (Some run) before t u a b done done' well well' = goes_on reply run event (refusal_of run event) before t u a b done done' well well'
 
-hears_of : (words : Octets) (event : Event) → HasOne (HearsOf plain_rules words event)
-hears_of words event before t u a b done done' well well' = hears (counts_line words []) event before.call before t u a b done done' well well'
-
 ticks : (reply : Octets) (ms : ℕ) (told : Option FailoverRun) → HasOne (Ticks plain_rules reply ms told)
 ticks reply ms None before t u a b kept kept' well well' = (kept.0 ∙ sym kept'.0, kept.1 ∙ sym kept'.1)
 ticks reply ms (Some run) before t u a b done done' well well' =
     split (has_ended run)
-    (λ kept kept'. keeps reply before t u a b kept kept' well well')
+    (λ kept kept'. same_reply reply before t u a b kept kept' well well')
     (λ goes goes'. goes_on reply run (Ticked ms) (refusal_of run (Ticked ms)) before t u a b goes goes' well well')
     done done'
 
@@ -286,6 +137,11 @@ calls_uri kind base (Err fault) draws before t u a b kept kept' well well' = (ke
 calls_uri kind base (Ok question) (Err fault) before t u a b kept kept' well well' = (kept.0 ∙ sym kept'.0, kept.1 ∙ sym kept'.1)
 calls_uri kind base (Ok question) (Ok words) before t u a b done done' well well' = calls_unless_open kind base question words before t u a b done done' well well'
 
+does_in_call : (act : CallAct) → HasOne (DoesInCall plain_rules act)
+does_in_call (hear words event) before t u a b done done' well well' = hears (counts_line words []) event before.call before t u a b done done' well well'
+does_in_call (set_clock ms) before t u a b done done' well well' = sets_clock ms before t u a b done done' well well'
+does_in_call (open_call kind base asked draws) before t u a b done done' well well' = calls_uri kind base asked draws before t u a b done done' well well'
+
 -- ---- what a line does in the session
 
 -- the session at the plain machine
@@ -305,7 +161,7 @@ on_call Acts one before t u a b done done' well well' =
 gathers : (gathering : Gathering) → HasOne {S = State} (Gathers plain_rules gathering)
 gathers gathering before t u a b done done' well well' =
     split (gathering.left == 0)
-    (λ loaded loaded'. on_desk (LoadsGathered plain_rules gathering.gathered) (loads_gathered gathering.gathered) (with_gathering None before) t u a b loaded loaded' well well')
+    (λ loaded loaded'. on_desk (LoadsGathered plain_rules gathering.gathered) (asks_one (gathered_asked gathering.gathered)) (with_gathering None before) t u a b loaded loaded' well well')
     (λ kept kept'. (kept.0 ∙ sym kept'.0, kept.1 ∙ sym kept'.1))
     done done'
 
@@ -355,28 +211,15 @@ gathers_or_loses gathering before t u a b done done' well well' = either_gathers
 one : (Acts : State → Octets → State → Type 0) → HasOne Acts → HasOneOrLost Acts
 one Acts has before t u a b done done' well well' = let is = has before t u a b done done' well well' in (is.0, inl is.1)
 
-performs : (request : Request) → HasOneOrLost (Performs plain_rules request)
-performs nothing = one (Keeps []) (keeps [])
-performs unknown = one (Refuses (codes "K1")) (keeps (refusal_line (codes "K1")))
-performs too_long = one (Refuses (codes "K2")) (keeps (refusal_line (codes "K2")))
-performs (zone apex lines) = either_gathers (gathering_of apex lines None)
-performs (drop apex) = one (AtDesk (Unloads plain_rules (name_of apex []))) (on_desk (Unloads plain_rules (name_of apex [])) (unloads (name_of apex [])))
-performs (add r) = one (AtDesk (EditsRecord plain_rules AddRecord (record_of r []))) (on_desk (EditsRecord plain_rules AddRecord (record_of r [])) (edits_record AddRecord (record_of r [])))
-performs (del r) = one (AtDesk (EditsRecord plain_rules RemoveRecord (record_of r []))) (on_desk (EditsRecord plain_rules RemoveRecord (record_of r [])) (edits_record RemoveRecord (record_of r [])))
-performs (find uri draws) = one (AtDesk (AnswersUri plain_rules (question_of uri) draws)) (on_desk (AnswersUri plain_rules (question_of uri) draws) (answers_uri (question_of uri) draws))
-performs (deps uri) = one (AtDesk (ListsUri plain_rules (question_of uri))) (on_desk (ListsUri plain_rules (question_of uri)) (lists_uri (question_of uri)))
-performs repair = one (AtDesk (Repairs plain_rules)) (on_desk (Repairs plain_rules) repairs)
-performs page = one (AtDesk (TurnsPage plain_rules)) (on_desk (TurnsPage plain_rules) turns_page)
-performs (hold endpoint ms) = one (AtDesk (ChangesHold plain_rules (change.Hold ms) endpoint)) (on_desk (ChangesHold plain_rules (change.Hold ms) endpoint) (changes_hold (change.Hold ms) endpoint))
-performs (release endpoint) = one (AtDesk (ChangesHold plain_rules change.Release endpoint)) (on_desk (ChangesHold plain_rules change.Release endpoint) (changes_hold change.Release endpoint))
-performs (clock ms) = one (AtCall (SetsClock plain_rules ms)) (on_call (SetsClock plain_rules ms) (sets_clock ms))
-performs (call kind base uri draws) = one (AtCall (CallsUri plain_rules kind base (question_of uri) draws)) (on_call (CallsUri plain_rules kind base (question_of uri) draws) (calls_uri kind base (question_of uri) draws))
-performs (got attempt code retry) = one (AtCall (HearsOf plain_rules (codes "ok got") (Received attempt code retry))) (on_call (HearsOf plain_rules (codes "ok got") (Received attempt code retry)) (hears_of (codes "ok got") (Received attempt code retry)))
-performs broke = one (AtCall (HearsOf plain_rules (codes "ok broke") TransportFailed)) (on_call (HearsOf plain_rules (codes "ok broke") TransportFailed) (hears_of (codes "ok broke") TransportFailed))
-performs quit = λ before t u a b done done' well well'. (done.0 ∙ sym done'.0, inl (done.1 ∙ sym done'.1))
+does_act : (act : Act) → HasOneOrLost (DoesAct plain_rules act)
+does_act (says reply) = one (Keeps reply) (same_reply reply)
+does_act (takes_zone apex lines) = either_gathers (gathering_of apex lines None)
+does_act (asks asked) = one (AtDesk (Asks plain_rules asked)) (on_desk (Asks plain_rules asked) (asks_one asked))
+does_act (in_call act) = one (AtCall (DoesInCall plain_rules act)) (on_call (DoesInCall plain_rules act) (does_in_call act))
+does_act (quits reply) = λ before t u a b done done' well well'. (done.0 ∙ sym done'.0, inl (done.1 ∙ sym done'.1))
 
 obeys : (request : Request) → HasOneOrLost (Obeys plain_rules request)
-obeys request before t u a b (inl done) (inl done') well well' = performs request before t u a b done done' well well'
+obeys request before t u a b (inl done) (inl done') well well' = does_act (task_of request).act before t u a b done done' well well'
 obeys request before t u a b (inl done) (inr fails) well well' = absurd (well' ([], fails.1.0))
 obeys request before t u a b (inr fails) done well well' = absurd (well ([], fails.1.0))
 

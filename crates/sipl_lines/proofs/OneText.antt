@@ -1,20 +1,18 @@
 -- A session over one input at the plain machine: where no allocation fails it has one text.
-use Rattle.std.proofs.Common.{◌≡◌, ◌⊎◌, ℕ, ◌-◌, List, [], ◌∷◌, ◌++◌, Bool, true, false, Option, None, Some, ◌==◌, ◌<◌, length, refl, sym, ap, ◌∙◌, subst, inl, inr, append_assoc, codes}
+use Rattle.std.proofs.Common.{◌≡◌, ◌⊎◌, ℕ, ◌-◌, List, [], ◌∷◌, ◌++◌, Bool, true, false, Option, None, Some, ◌==◌, length, refl, sym, ap, ◌∙◌, subst, inl, inr, append_assoc, codes}
 use Rattle.std.specs.Prelude.{nat_lt, if◌then◌else◌}
 use Rattle.std.specs.Bool.{OnTrue, OnFalse}
 use Rattle.sipl_names.specs.Labels.{Octets}
-use Rattle.sipl_lines.specs.declared.gather.Gathered.{Gathered}
 use Rattle.sipl_lines.specs.declared.gather.Gathered.TheVariants.{Lost}
 use Rattle.sipl_lines.specs.declared.gather.Gathering.{Gathering}
 use Rattle.sipl_lines.specs.Commands.{Keeps}
-use Rattle.sipl_lines.specs.Gathering.{after_line, after_long_line, after_short_line, at_end, gathered_after, lost}
+use Rattle.sipl_lines.specs.Gathering.{after_line, after_long_line, after_short_line, lost}
 use Rattle.sipl_lines.specs.Items.{Item, line, end_of_input, line_items}
 use Rattle.sipl_lines.specs.OneReply.{EndsInMemory, TellsMemory}
-use Rattle.sipl_lines.specs.PlainDesk.{PlainState, plain_rules}
-use Rattle.sipl_lines.specs.Protocol.{Protocol}
+use Rattle.sipl_lines.specs.PlainDesk.{plain_rules}
 use Rattle.sipl_lines.specs.Replies.{Pauses, Serves, Waits, WaitsAndReplies}
 use Rattle.sipl_lines.specs.ReplyText.{refusal_line}
-use Rattle.sipl_lines.specs.Session.{SessionState, with_desk, with_gathering, AtDesk, Gathers, GathersOrLoses, LoadsGathered, MayReply, TakesEnd, TakesItem, TakesLine, session_protocol}
+use Rattle.sipl_lines.specs.Session.{with_desk, with_gathering, AtDesk, Gathers, GathersOrLoses, LoadsGathered, MayReply, TakesEnd, TakesItem, TakesLine, session_protocol}
 use Rattle.sipl_lines.proofs.OneReply.{IsLost, OneOrLosing, State, end_once, reply_once}
 
 -- what a session at the plain machine serves

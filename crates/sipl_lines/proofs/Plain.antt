@@ -34,7 +34,8 @@ use Rattle.sipl_book.specs.declared.outcome.Extent.{Extent}
 use Rattle.sipl_book.specs.declared.outcome.Handed.{Handed}
 use Rattle.sipl_lines.specs.Desk.{book_rules}
 use Rattle.sipl_lines.specs.PlainDesk.{EndsSo, PlainState, after_change, change_ending, change_refusal, edited, ending_of, find_ending, move_ending, move_refusal, page_ending, plain_of, plain_rules, sets_listed, sets_read, unless_at_limit, with_event}
-use Rattle.sipl_lines.proofs.Seen.{Implies, on_err, on_ok}
+use Rattle.sipl_lines.proofs.DeskCalls.{Implies}
+use Rattle.sipl_lines.proofs.Seen.{on_err, on_ok}
 
 -- ---- how a call ends
 

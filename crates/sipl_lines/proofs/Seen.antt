@@ -2,86 +2,40 @@
 -- implies that of the other, the same text is that of a session at the other.
 use Rattle.std.proofs.Common.{◌≡◌, ℕ, List, [], ◌∷◌, map, take, Bool, true, false, Option, None, Some, Result, Ok, Err, OnOk, OnErr, ◌==◌, ◌++◌, ap, subst, ◌∙◌, inl, inr, codes}
 use Rattle.std.specs.Bool.{OnTrue, OnFalse}
-use Rattle.sipl_names.specs.Labels.{Octets, Labels}
-use Rattle.sipl_names.specs.NameText.{name_of}
-use Rattle.sipl_names.specs.declared.fault.InvalidName.{InvalidName}
-use Rattle.sipl_records.specs.declared.fault.AddressFault.{AddressFault}
-use Rattle.sipl_records.specs.declared.record.Record.{Record}
-use Rattle.sipl_masterfile.specs.Zones.{Zone, zone_of}
-use Rattle.sipl_masterfile.specs.RecordText.{record_of}
-use Rattle.sipl_masterfile.specs.declared.fault.ZoneFault.{ZoneFault}
+use Rattle.sipl_names.specs.Labels.{Octets}
 use Rattle.sipl_choice.specs.declared.endpoint.Endpoint.{Endpoint}
 use Rattle.sipl_srv.specs.declared.fault.DrawsFault.{DrawsFault}
 use Rattle.sipl_uri.specs.Uris.{question_of}
 use Rattle.sipl_uri.specs.declared.fault.UriFault.{UriFault}
 use Rattle.sipl_uri.specs.declared.question.Question.{Question}
-use Rattle.sipl_evidence.specs.Items.{Item as Evidence}
-use Rattle.sipl_outages.specs.Holds.{BoardEvent}
 use Rattle.sipl_outages.specs.Holds.BoardEvent.{Hold, Advance}
 use Rattle.sipl_tx.specs.declared.parts.Kind.{Kind}
 use Rattle.sipl_failover.specs.FailoverRun.{FailoverRun, Event, has_ended}
-use Rattle.sipl_failover.specs.FailoverRun.Event.{Received, Ticked, TransportFailed}
+use Rattle.sipl_failover.specs.FailoverRun.Event.{Ticked}
 use Rattle.sipl_failover.specs.Rules.{after as after_event, refusal_of}
 use Rattle.sipl_failover.specs.declared.fault.FailoverFault.{FailoverFault}
-use Rattle.sipl_book.specs.declared.edit.Edit.{Edit}
-use Rattle.sipl_book.specs.declared.edit.Edit.TheVariants.{Load, Unload}
-use Rattle.sipl_book.specs.declared.outcome.Done.{Done}
-use Rattle.sipl_book.specs.declared.outcome.Extent.{Extent}
 use Rattle.sipl_book.specs.declared.outcome.Handed.{Handed}
-use Rattle.sipl_lines.specs.declared.desk_commands.HoldChange.{HoldChange}
-use Rattle.sipl_lines.specs.declared.desk_commands.HoldChange.TheVariants as change
-use Rattle.sipl_lines.specs.declared.desk_commands.RecordEdit.{RecordEdit}
-use Rattle.sipl_lines.specs.declared.desk_commands.RecordEdit.TheVariants.{Add as AddRecord, Remove as RemoveRecord}
-use Rattle.sipl_lines.specs.declared.gather.Gathered.{Gathered}
-use Rattle.sipl_lines.specs.declared.gather.Gathered.TheVariants.{Lines, BadApex, LongLine, Lost}
 use Rattle.sipl_lines.specs.declared.gather.Gathering.{Gathering}
 use Rattle.sipl_lines.specs.declared.server.Ended.{Ended}
 use Rattle.sipl_lines.specs.declared.server.ServeFault.{ServeFault}
 use Rattle.sipl_lines.specs.declared.server.ServeFault.TheVariants.{Read, Write, TooManyTurns, Memory}
 use Rattle.sipl_lines.specs.declared.tapped.Tapped.{Tapped}
 use Rattle.sipl_lines.specs.Tapped.{tapped_inner}
-use Rattle.sipl_lines.specs.Commands.{Keeps, Loads, Unloads, EditsRecord, record_edit, AnswersUri, ListsUri, Repairs, TurnsPage, MovesTo, ChangesHold, change_words, change_event, result_text}
-use Rattle.sipl_lines.specs.Calls.{CallDesk, with_call, hold_in, MakesHold, GoesOn, Hears, HearsOf, Ticks, TellsTime, SetsClock, OpensFor, is_open, CallsUnlessOpen, CallsUri}
+use Rattle.sipl_lines.specs.Commands.{Keeps, Asks, moves, CallAct, hear, set_clock, open_call, Act, says, takes_zone, asks, in_call, quits, task_of}
+use Rattle.sipl_lines.specs.Calls.{CallDesk, with_call, hold_in, DoesInCall, MakesHold, GoesOn, Hears, Ticks, TellsTime, SetsClock, OpensFor, is_open, CallsUnlessOpen, CallsUri}
 use Rattle.sipl_lines.specs.Desk.{DeskRules}
 use Rattle.sipl_lines.specs.Gathering.{gathering_of, after_line, at_end, lost}
 use Rattle.sipl_lines.specs.Items.{Item, line, end_of_input, items_of, complete_items}
 use Rattle.sipl_lines.specs.Machine.{items_from}
 use Rattle.sipl_lines.specs.Replies.{AppendsReplies, Pauses, Serves, Waits}
 use Rattle.sipl_lines.specs.ReplyText.{counts_line, refusal_line}
-use Rattle.sipl_lines.specs.Requests.{Request, nothing, unknown, too_long, zone, drop, add, del, find, deps, repair, page, hold, release, clock, call, got, broke, quit, request_of}
+use Rattle.sipl_lines.specs.Requests.{Request, request_of}
 use Rattle.sipl_lines.specs.Serving.{ServesWithin, ServesDesk}
 use Rattle.sipl_lines.specs.ServeFault.{OnReadFault, OnTooManyTurns}
-use Rattle.sipl_lines.specs.Session.{SessionState, with_gathering, AtCall, AtDesk, Gathers, GathersOrLoses, LoadsGathered, MayPause, MayReply, Obeys, Performs, TakesEnd, TakesItem, TakesLine, new_session, session_protocol}
+use Rattle.sipl_lines.specs.Session.{SessionState, with_gathering, AtCall, AtDesk, Gathers, GathersOrLoses, LoadsGathered, gathered_asked, DoesAct, MayPause, MayReply, Obeys, TakesEnd, TakesItem, TakesLine, new_session, session_protocol}
 use Rattle.sipl_lines.specs.Streams.{ServesAll, ServesPrefix, ServesRead}
 use Rattle.sipl_lines.specs.Takes.{Takes, TakesFirst}
-
--- each rule of a desk implies that of another, where the states are seen so, and the faults have the
--- same texts
-pub record Implies {D E F : Type 0} (seen : D → E) (R : DeskRules D F) (R' : DeskRules E F) : Type 0 where
-  pub finds : (question : Question) (words : List ℕ) (before : D) (outcome : Result Handed F) (after : D)
-      → R.Finds question words before outcome after → R'.Finds question words (seen before) outcome (seen after)
-  pub changes : (edit : Edit) (before : D) (outcome : Result Done F) (after : D)
-      → R.Changes edit before outcome after → R'.Changes edit (seen before) outcome (seen after)
-  pub moves : (event : BoardEvent) (before : D) (outcome : Result ℕ F) (after : D)
-      → R.Moves event before outcome after → R'.Moves event (seen before) outcome (seen after)
-  pub depends : (question : Question) (before : D) (outcome : Result (List Evidence) F) (after : D)
-      → R.Depends question before outcome after → R'.Depends question (seen before) outcome (seen after)
-  pub repairs : (before : D) (outcome : Result (Unit {0}) F) (after : D)
-      → R.Repairs before outcome after → R'.Repairs (seen before) outcome (seen after)
-  pub pages : (before : D) (outcome : Result Extent F) (after : D)
-      → R.Pages before outcome after → R'.Pages (seen before) outcome (seen after)
-  pub pauses : (before after : D) → R.Pauses before after → R'.Pauses (seen before) (seen after)
-  pub time : (state : D) (now : ℕ) → R.IsTime state now → R'.IsTime (seen state) now
-  pub zone_octets : (state : D) → R.zone_octets state ≡ R'.zone_octets (seen state)
-  pub fault : (fault : F) → R.fault_text fault ≡ R'.fault_text fault
-
--- what is done in a state, with this text, is done in the state that is seen
-abbrev Carries : {D E : Type 0} → (D → E) → (D → Octets → D → Type 0) → (E → Octets → E → Type 0) → Type 0
-Carries {D} seen Acts Acts' = (before : D) (text : Octets) (after : D) → Acts before text after → Acts' (seen before) text (seen after)
-
--- this reply, and nothing else
-keeps : {D E : Type 0} (seen : D → E) (reply : Octets) → Carries seen (Keeps reply) (Keeps reply)
-keeps seen reply before text after kept = (kept.0, ap seen kept.1)
+use Rattle.sipl_lines.proofs.DeskCalls.{Carries, Implies, asks_seen, keeps}
 
 -- the session's state with its desk as it is seen; all else is the same
 abbrev pub session_seen : {D E : Type 0} → (D → E) → SessionState D → SessionState E
@@ -133,61 +87,11 @@ on_too_many_turns (Err TooManyTurns) weaker fact = weaker fact
 on_too_many_turns (Err Memory) weaker fact = tt
 
 module _ {D E F : Type 0} (seen : D → E) (R : DeskRules D F) (R' : DeskRules E F) (implies : Implies seen R R') where
-  -- ---- what a command asks of the desk
-
-  -- the reply to what the desk did
-  told : {A : Type 0} (reply_of : A → Octets) (outcome : Result A F) (text : Octets) → text ≡ result_text R reply_of outcome → text ≡ result_text R' reply_of outcome
-  told reply_of (Ok value) text is = is
-  told reply_of (Err fault) text is = is ∙ ap refusal_line (implies.fault fault)
-
-  loads : (read : Result Zone ZoneFault) → Carries seen (Loads R read) (Loads R' read)
-  loads (Err fault) before text after kept = (kept.0, ap seen kept.1)
-  loads (Ok loaded) before text after done = (done.0, implies.changes (Load loaded) before done.0 after done.1, told _ done.0 text done.2)
-
-  unloads : (name : Result Labels InvalidName) → Carries seen (Unloads R name) (Unloads R' name)
-  unloads (Err fault) before text after kept = (kept.0, ap seen kept.1)
-  unloads (Ok apex) before text after done = (done.0, implies.changes (Unload apex) before done.0 after done.1, told _ done.0 text done.2)
-
-  edits_record : (kind : RecordEdit) (r : Result Record ZoneFault) → Carries seen (EditsRecord R kind r) (EditsRecord R' kind r)
-  edits_record kind (Err fault) before text after kept = (kept.0, ap seen kept.1)
-  edits_record kind (Ok r) before text after done = (done.0, implies.changes (record_edit kind r) before done.0 after done.1, told _ done.0 text done.2)
-
-  answers_uri : (asked : Result Question UriFault) (draws : Result (List ℕ) DrawsFault) → Carries seen (AnswersUri R asked draws) (AnswersUri R' asked draws)
-  answers_uri (Err fault) draws before text after kept = (kept.0, ap seen kept.1)
-  answers_uri (Ok question) (Err fault) before text after kept = (kept.0, ap seen kept.1)
-  answers_uri (Ok question) (Ok words) before text after (inl done) = inl (done.0, implies.finds question words before done.0 after done.1, told _ done.0 text done.2)
-  answers_uri (Ok question) (Ok words) before text after (inr done) = inr (done.0, implies.finds question words before (Ok done.0) after done.1, done.2, done.3)
-
-  lists_uri : (asked : Result Question UriFault) → Carries seen (ListsUri R asked) (ListsUri R' asked)
-  lists_uri (Err fault) before text after kept = (kept.0, ap seen kept.1)
-  lists_uri (Ok question) before text after (inl done) = inl (done.0, implies.depends question before done.0 after done.1, told _ done.0 text done.2)
-  lists_uri (Ok question) before text after (inr done) = inr (done.0, implies.depends question before (Ok done.0) after done.1, done.2, done.3)
-
-  repairs : Carries seen (Repairs R) (Repairs R')
-  repairs before text after done = (done.0, implies.repairs before done.0 after done.1, told _ done.0 text done.2)
-
-  turns_page : Carries seen (TurnsPage R) (TurnsPage R')
-  turns_page before text after done = (done.0, implies.pages before done.0 after done.1, told _ done.0 text done.2)
-
-  moves_to : (reply : Octets) (event : BoardEvent) → Carries seen (MovesTo R reply event) (MovesTo R' reply event)
-  moves_to reply event before text after done = (done.0, implies.moves event before done.0 after done.1, told _ done.0 text done.2)
-
-  changes_hold : (change : HoldChange) (endpoint : Result Endpoint AddressFault) → Carries seen (ChangesHold R change endpoint) (ChangesHold R' change endpoint)
-  changes_hold change (Err fault) before text after kept = (kept.0, ap seen kept.1)
-  changes_hold change (Ok endpoint) before text after done =
-      moves_to (counts_line (change_words change) []) (change_event change endpoint) before text after done
-
-  loads_gathered : (gathered : Gathered) → Carries seen (LoadsGathered R gathered) (LoadsGathered R' gathered)
-  loads_gathered Lost before text after kept = (kept.0, ap seen kept.1)
-  loads_gathered LongLine before text after kept = (kept.0, ap seen kept.1)
-  loads_gathered (BadApex fault octets_left) before text after kept = (kept.0, ap seen kept.1)
-  loads_gathered (Lines lines octets_left) before text after done = loads (zone_of lines.text lines.apex) before text after done
-
   -- ---- what a command does with the call
 
   makes_hold : (reply : Octets) (asked : Option (Endpoint × ℕ)) → Carries seen (MakesHold R reply asked) (MakesHold R' reply asked)
   makes_hold reply None before text after kept = (kept.0, ap seen kept.1)
-  makes_hold reply (Some asked) before text after done = moves_to reply (Hold asked.0 asked.1) before text after done
+  makes_hold reply (Some asked) before text after done = asks_seen seen R R' implies (moves reply (Hold asked.0 asked.1)) before text after done
 
   goes_on : (reply : Octets) (run : FailoverRun) (event : Event) (fault : Option FailoverFault)
       → Carries (call_seen seen) (GoesOn R reply run event fault) (GoesOn R' reply run event fault)
@@ -198,9 +102,6 @@ module _ {D E F : Type 0} (seen : D → E) (R : DeskRules D F) (R' : DeskRules E
   hears : (reply : Octets) (event : Event) (heard : Option FailoverRun) → Carries (call_seen seen) (Hears R reply event heard) (Hears R' reply event heard)
   hears reply event None before text after kept = (kept.0, ap (call_seen seen) kept.1)
   hears reply event (Some run) before text after done = goes_on reply run event (refusal_of run event) before text after done
-
-  hears_of : (words : Octets) (event : Event) → Carries (call_seen seen) (HearsOf R words event) (HearsOf R' words event)
-  hears_of words event before text after done = hears (counts_line words []) event before.call before text after done
 
   ticks : (reply : Octets) (ms : ℕ) (told : Option FailoverRun) → Carries (call_seen seen) (Ticks R reply ms told) (Ticks R' reply ms told)
   ticks reply ms None before text after kept = (kept.0, ap (call_seen seen) kept.1)
@@ -240,7 +141,7 @@ module _ {D E F : Type 0} (seen : D → E) (R : DeskRules D F) (R' : DeskRules E
 
   gathers : (gathering : Gathering) → Carries (session_seen seen) (Gathers R gathering) (Gathers R' gathering)
   gathers gathering before text after done = (
-    on_true (gathering.left == 0) (λ loaded. on_desk seen (LoadsGathered R gathering.gathered) (LoadsGathered R' gathering.gathered) (loads_gathered gathering.gathered) (with_gathering None before) text after loaded) done.0,
+    on_true (gathering.left == 0) (λ loaded. on_desk seen (LoadsGathered R gathering.gathered) (LoadsGathered R' gathering.gathered) (asks_seen seen R R' implies (gathered_asked gathering.gathered)) (with_gathering None before) text after loaded) done.0,
     on_false (gathering.left == 0) (λ kept. keeps (session_seen seen) [] (with_gathering (Some gathering) before) text after kept) done.1,
   )
 
@@ -248,41 +149,23 @@ module _ {D E F : Type 0} (seen : D → E) (R : DeskRules D F) (R' : DeskRules E
   gathers_or_loses gathering before text after (inl done) = inl (gathers gathering before text after done)
   gathers_or_loses gathering before text after (inr done) = inr (done.0, gathers (lost gathering.left) before text after done.1)
 
-  performs : (request : Request) → Carries (session_seen seen) (Performs R request) (Performs R' request)
-  performs nothing before text after kept = (kept.0, ap (session_seen seen) kept.1)
-  performs unknown before text after kept = (kept.0, ap (session_seen seen) kept.1)
-  performs too_long before text after kept = (kept.0, ap (session_seen seen) kept.1)
-  performs (zone apex lines) before text after (inl done) =
+  does_in_call : (act : CallAct) → Carries (call_seen seen) (DoesInCall R act) (DoesInCall R' act)
+  does_in_call (hear words event) before text after done = hears (counts_line words []) event before.call before text after done
+  does_in_call (set_clock ms) before text after done = sets_clock ms before text after done
+  does_in_call (open_call kind base asked draws) before text after done = calls_uri kind base asked draws before text after done
+
+  does_act : (act : Act) → Carries (session_seen seen) (DoesAct R act) (DoesAct R' act)
+  does_act (says reply) before text after kept = (kept.0, ap (session_seen seen) kept.1)
+  does_act (takes_zone apex lines) before text after (inl done) =
       inl (subst (λ limit. Gathers R' (gathering_of apex lines limit) (session_seen seen before) text (session_seen seen after)) (implies.zone_octets before.desk)
       (gathers (gathering_of apex lines (R.zone_octets before.desk)) before text after done))
-  performs (zone apex lines) before text after (inr done) = inr (gathers (lost lines) before text after done)
-  performs (drop apex) before text after done =
-      on_desk seen (Unloads R (name_of apex [])) (Unloads R' (name_of apex [])) (unloads (name_of apex [])) before text after done
-  performs (add r) before text after done =
-      on_desk seen (EditsRecord R AddRecord (record_of r [])) (EditsRecord R' AddRecord (record_of r [])) (edits_record AddRecord (record_of r [])) before text after done
-  performs (del r) before text after done =
-      on_desk seen (EditsRecord R RemoveRecord (record_of r [])) (EditsRecord R' RemoveRecord (record_of r [])) (edits_record RemoveRecord (record_of r [])) before text after done
-  performs (find uri draws) before text after done =
-      on_desk seen (AnswersUri R (question_of uri) draws) (AnswersUri R' (question_of uri) draws) (answers_uri (question_of uri) draws) before text after done
-  performs (deps uri) before text after done =
-      on_desk seen (ListsUri R (question_of uri)) (ListsUri R' (question_of uri)) (lists_uri (question_of uri)) before text after done
-  performs repair before text after done = on_desk seen (Repairs R) (Repairs R') repairs before text after done
-  performs page before text after done = on_desk seen (TurnsPage R) (TurnsPage R') turns_page before text after done
-  performs (hold endpoint ms) before text after done =
-      on_desk seen (ChangesHold R (change.Hold ms) endpoint) (ChangesHold R' (change.Hold ms) endpoint) (changes_hold (change.Hold ms) endpoint) before text after done
-  performs (release endpoint) before text after done =
-      on_desk seen (ChangesHold R change.Release endpoint) (ChangesHold R' change.Release endpoint) (changes_hold change.Release endpoint) before text after done
-  performs (clock ms) before text after done = on_call seen (SetsClock R ms) (SetsClock R' ms) (sets_clock ms) before text after done
-  performs (call kind base uri draws) before text after done =
-      on_call seen (CallsUri R kind base (question_of uri) draws) (CallsUri R' kind base (question_of uri) draws) (calls_uri kind base (question_of uri) draws) before text after done
-  performs (got attempt code retry) before text after done =
-      on_call seen (HearsOf R (codes "ok got") (Received attempt code retry)) (HearsOf R' (codes "ok got") (Received attempt code retry)) (hears_of (codes "ok got") (Received attempt code retry)) before text after done
-  performs broke before text after done =
-      on_call seen (HearsOf R (codes "ok broke") TransportFailed) (HearsOf R' (codes "ok broke") TransportFailed) (hears_of (codes "ok broke") TransportFailed) before text after done
-  performs quit before text after done = (done.0, ap (session_seen seen) done.1)
+  does_act (takes_zone apex lines) before text after (inr done) = inr (gathers (lost lines) before text after done)
+  does_act (asks asked) before text after done = on_desk seen (Asks R asked) (Asks R' asked) (asks_seen seen R R' implies asked) before text after done
+  does_act (in_call act) before text after done = on_call seen (DoesInCall R act) (DoesInCall R' act) (does_in_call act) before text after done
+  does_act (quits reply) before text after done = (done.0, ap (session_seen seen) done.1)
 
   obeys : (request : Request) → Carries (session_seen seen) (Obeys R request) (Obeys R' request)
-  obeys request before text after (inl done) = inl (performs request before text after done)
+  obeys request before text after (inl done) = inl (does_act (task_of request).act before text after done)
   obeys request before text after (inr fails) = inr (fails.0, (fails.1.0, ap (session_seen seen) fails.1.1))
 
   takes_line : (gathering : Option Gathering) (octets : Octets) → Carries (session_seen seen) (TakesLine R gathering octets) (TakesLine R' gathering octets)

@@ -26,7 +26,7 @@ use Rattle.sipl_failover.specs.declared.fault.FailoverFault.TheVariants.{NoTarge
 use Rattle.sipl_failover.specs.declared.step.Step.{Step}
 use Rattle.sipl_failover.specs.declared.step.Step.TheVariants.{Send, Resend, Ack, Hold, Deliver, Exhausted}
 use Rattle.sipl_book.specs.declared.outcome.Handed.{Handed}
-use Rattle.sipl_lines.specs.Commands.{Keeps, Refuses, MovesTo}
+use Rattle.sipl_lines.specs.Commands.{Keeps, Refuses, MovesTo, CallAct, hear, set_clock, open_call}
 use Rattle.sipl_lines.specs.Desk.{DeskRules}
 use Rattle.sipl_lines.specs.ReplyText.{answer_text, counts_line, number_field, word_field}
 use Rattle.sipl_lines.specs.CommandWords.{ok_words}
@@ -208,3 +208,11 @@ CallsUri rules kind base (Err fault) draws before text after =
     Refuses (uri_code fault) before text after
 CallsUri rules kind base (Ok question) draws before text after =
     CallsWith rules kind base question draws before text after
+
+-- what is done with the call
+abbrev pub DoesInCall : {D F : Type 0} → DeskRules D F → CallAct → CallDesk D → Octets → CallDesk D
+    → Type 0
+DoesInCall rules (hear words event) before text after = HearsOf rules words event before text after
+DoesInCall rules (set_clock ms) before text after = SetsClock rules ms before text after
+DoesInCall rules (open_call kind base read draws) before text after =
+    CallsUri rules kind base read draws before text after

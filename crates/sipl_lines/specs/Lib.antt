@@ -14,7 +14,6 @@ pub mod CommandWords
 pub mod Requests
 pub mod ZoneLines
 pub mod Gathering
-pub mod CommandMeaning
 pub mod ReplyText
 pub mod Desk
 pub mod ServiceDesk

@@ -1,5 +1,5 @@
 -- What a line of a session asks for.
-use Rattle.std.specs.Prelude.{ℕ, Bool, false, List, [], ◌∷◌, Option, None, Some, Result, Ok, Err, codes, nat_eq, nat_lt, length, option_map, if◌then◌else◌, ◌==◌}
+use Rattle.std.specs.Prelude.{ℕ, Bool, false, List, [], ◌∷◌, Option, None, Some, Result, Ok, Err, codes, nat_eq, nat_lt, length, option_map, unwrap_or, if◌then◌else◌, ◌==◌}
 use lib.Pointwise.{pointwise}
 use Rattle.sipl_records.specs.Fields.{fields_of, trim_start, after_field}
 use Rattle.sipl_records.specs.Numbers.{number_of}
@@ -14,6 +14,8 @@ use Rattle.sipl_tx.specs.declared.parts.Kind.{Kind}
 use Rattle.sipl_tx.specs.declared.parts.Kind.TheVariants.{Invite, Other}
 use Rattle.sipl_names.specs.Labels.{Octets}
 use Rattle.sipl_lines.specs.CommandWords.{is_word}
+use Rattle.sipl_lines.specs.declared.command.Command.{Command}
+use Rattle.sipl_lines.specs.declared.command.Command.TheVariants.{Nothing, Unknown, TooLong, Zone, Drop, Add, Del, Find, Deps, Repair, Page, Hold, Release, Clock, Call, Got, Broke, Quit}
 use Rattle.sipl_lines.specs.DrawsField.{draws_of}
 use Rattle.sipl_lines.specs.declared.command_word.CommandWord.TheVariants as command
 
@@ -37,6 +39,31 @@ pub data Request : Type 0 where
   got : ℕ → ℕ → Option ℕ → Request
   broke : Request
   quit : Request
+
+-- the request of a command
+abbrev pub meaning_of : Command → Request
+meaning_of Nothing = nothing
+meaning_of Unknown = unknown
+meaning_of TooLong = too_long
+meaning_of (Zone apex lines) = zone apex.now lines
+meaning_of (Drop apex) = drop apex.now
+meaning_of (Add text) = add text.now
+meaning_of (Del text) = del text.now
+meaning_of (Find uri draws) = find uri.now draws
+meaning_of (Deps uri) = deps uri.now
+meaning_of Repair = repair
+meaning_of Page = page
+meaning_of (Hold endpoint ms) = hold endpoint ms
+meaning_of (Release endpoint) = release endpoint
+meaning_of (Clock to) = clock to
+meaning_of (Call kind base uri draws) = call kind base uri.now draws
+meaning_of (Got attempt code retry_after) = got attempt code retry_after
+meaning_of Broke = broke
+meaning_of Quit = quit
+
+-- the request of a command, if there is one
+abbrev pub meaning_if_read : Option Command → Request
+meaning_if_read command = meaning_of (unwrap_or command Unknown)
 
 -- a comment begins with # as the first octet of its line
 abbrev pub is_comment : Octets → Bool

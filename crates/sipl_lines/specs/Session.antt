@@ -2,29 +2,20 @@
 use Rattle.std.specs.Prelude.{◌≡◌, ◌⊎◌, ◌≤◌, ℕ, Bool, true, false, [], ◌++◌, Option, None, Some, Result, OnOk, OnErr, Vec, vec_capacity, codes, IsTrue, ◌==◌}
 use Rattle.std.specs.Bool.{OnTrue, OnFalse}
 use Rattle.sipl_names.specs.Labels.{Octets}
-use Rattle.sipl_names.specs.NameText.{name_of}
 use Rattle.sipl_names.specs.InvalidName.{code_of as name_code}
 use Rattle.sipl_masterfile.specs.Zones.{zone_of}
-use Rattle.sipl_masterfile.specs.RecordText.{record_of}
-use Rattle.sipl_uri.specs.Uris.{has_scheme_and_octets, question_of}
 use Rattle.sipl_failover.specs.FailoverRun.{FailoverRun}
-use Rattle.sipl_failover.specs.FailoverRun.Event.{Received, TransportFailed}
-use Rattle.sipl_lines.specs.declared.desk_commands.RecordEdit.TheVariants.{Add as AddRecord, Remove as RemoveRecord}
-use Rattle.sipl_lines.specs.declared.desk_commands.HoldChange.TheVariants as change
-use Rattle.sipl_lines.specs.Commands.{Keeps, Refuses, Fails, Loads, Unloads, EditsRecord, AnswersUri, ListsUri, Repairs, TurnsPage, ChangesHold}
-use Rattle.sipl_lines.specs.Calls.{CallDesk, CallsUri, HearsOf, SetsClock, with_call}
+use Rattle.sipl_lines.specs.Commands.{Keeps, Fails, Asked, Asks, refused_with, zone_asked, Act, says, takes_zone, asks, in_call, quits, task_of}
+use Rattle.sipl_lines.specs.Calls.{DoesInCall, CallDesk, with_call}
 use Rattle.sipl_lines.specs.Desk.{DeskRules}
 use Rattle.sipl_lines.specs.Items.{Item, line, end_of_input}
 use Rattle.sipl_lines.specs.Protocol.{Protocol}
-use Rattle.sipl_lines.specs.Requests.{Request, nothing, unknown, too_long, zone, drop, add, del, find, deps, repair, page, hold, release, clock, call, got, broke, quit, request_of}
+use Rattle.sipl_lines.specs.Requests.{Request, request_of}
 use Rattle.sipl_lines.specs.Gathering.{gathering_of, after_line, at_end, lost, keeps_lines}
 use Rattle.sipl_lines.specs.declared.gather.Gathered.{Gathered}
 use Rattle.sipl_lines.specs.declared.gather.Gathered.TheVariants.{Lines, BadApex, LongLine, Lost}
 use Rattle.sipl_lines.specs.declared.gather.Gathering.{Gathering}
 use Rattle.sipl_lines.specs.declared.session.Session.{Session}
-use Rattle.sipl_lines.specs.CommandWords.{ok_words}
-use Rattle.sipl_lines.specs.ReplyText.{counts_line}
-use Rattle.sipl_lines.specs.declared.command_word.CommandWord.TheVariants as command
 
 -- the state of a session: the desk, the zone whose lines are being taken, the last call, and whether
 -- the session has ended
@@ -69,24 +60,16 @@ AtCall Acts before text after =
     Acts (with_call before.desk before.call) text (with_call after.desk after.call)
     × (after ≡ record before { desk = after.desk; call = after.call })
 
--- whether an allocation may fail while the fields of a request are read, which then changes nothing:
--- a fault in the scheme or the octets of a URI is found before anything is allocated
-abbrev pub MayFail : Request → Type 0
-MayFail (drop apex) = Unit {0}
-MayFail (add r) = Unit {0}
-MayFail (del r) = Unit {0}
-MayFail (find uri draws) = IsTrue (has_scheme_and_octets uri)
-MayFail (deps uri) = IsTrue (has_scheme_and_octets uri)
-MayFail (call kind base uri draws) = IsTrue (has_scheme_and_octets uri)
-MayFail _ = ⊥
+-- what the lines that were taken for a zone ask for: the first of these that applies is reported
+abbrev pub gathered_asked : Gathered → Asked
+gathered_asked Lost = refused_with (codes "Memory")
+gathered_asked LongLine = refused_with (codes "K2")
+gathered_asked (BadApex fault octets_left) = refused_with (name_code fault)
+gathered_asked (Lines lines octets_left) = zone_asked (zone_of lines.text lines.apex)
 
--- `zone APEX COUNT`, once its lines are taken: the first of these that applies is reported
+-- `zone APEX COUNT`, once its lines are taken
 abbrev pub LoadsGathered : {D F : Type 0} → DeskRules D F → Gathered → D → Octets → D → Type 0
-LoadsGathered rules Lost before text after = Fails before text after
-LoadsGathered rules LongLine before text after = Refuses (codes "K2") before text after
-LoadsGathered rules (BadApex fault octets_left) before text after = Refuses (name_code fault) before text after
-LoadsGathered rules (Lines lines octets_left) before text after =
-    Loads rules (zone_of lines.text lines.apex) before text after
+LoadsGathered rules gathered before text after = Asks rules (gathered_asked gathered) before text after
 
 -- while lines are left to be taken there is no reply; it comes with the last of them
 abbrev pub Gathers : {D F : Type 0} → DeskRules D F → Gathering → SessionState D → Octets
@@ -103,40 +86,25 @@ GathersOrLoses rules gathering before text after =
     Gathers rules gathering before text after
     ⊎ (IsTrue (keeps_lines gathering.gathered) × Gathers rules (lost gathering.left) before text after)
 
--- what a request does once its fields are read. Names and records are relative to the root
-abbrev pub Performs : {D F : Type 0} → DeskRules D F → Request → SessionState D → Octets
-    → SessionState D → Type 0
-Performs rules nothing before text after = Keeps [] before text after
-Performs rules unknown before text after = Refuses (codes "K1") before text after
-Performs rules too_long before text after = Refuses (codes "K2") before text after
-Performs rules (zone apex lines) before text after =
+-- what an act does
+abbrev pub DoesAct : {D F : Type 0} → DeskRules D F → Act → SessionState D → Octets → SessionState D
+    → Type 0
+DoesAct rules (says reply) before text after = Keeps reply before text after
+DoesAct rules (takes_zone apex lines) before text after =
     Gathers rules (gathering_of apex lines (rules.zone_octets before.desk)) before text after
     ⊎ Gathers rules (lost lines) before text after
-Performs rules (drop apex) before text after =
-    AtDesk (Unloads rules (name_of apex [])) before text after
-Performs rules (add r) before text after =
-    AtDesk (EditsRecord rules AddRecord (record_of r [])) before text after
-Performs rules (del r) before text after =
-    AtDesk (EditsRecord rules RemoveRecord (record_of r [])) before text after
-Performs rules (find uri draws) before text after =
-    AtDesk (AnswersUri rules (question_of uri) draws) before text after
-Performs rules (deps uri) before text after =
-    AtDesk (ListsUri rules (question_of uri)) before text after
-Performs rules repair before text after = AtDesk (Repairs rules) before text after
-Performs rules page before text after = AtDesk (TurnsPage rules) before text after
-Performs rules (hold endpoint ms) before text after =
-    AtDesk (ChangesHold rules (change.Hold ms) endpoint) before text after
-Performs rules (release endpoint) before text after =
-    AtDesk (ChangesHold rules change.Release endpoint) before text after
-Performs rules (clock ms) before text after = AtCall (SetsClock rules ms) before text after
-Performs rules (call kind base uri draws) before text after =
-    AtCall (CallsUri rules kind base (question_of uri) draws) before text after
-Performs rules (got attempt code retry_after) before text after =
-    AtCall (HearsOf rules (ok_words command.Got) (Received attempt code retry_after)) before text after
-Performs rules broke before text after =
-    AtCall (HearsOf rules (ok_words command.Broke) TransportFailed) before text after
-Performs rules quit before text after =
-    (text ≡ counts_line (ok_words command.Quit) []) × (after ≡ record before { ended = true })
+DoesAct rules (asks asked) before text after = AtDesk (Asks rules asked) before text after
+DoesAct rules (in_call act) before text after = AtCall (DoesInCall rules act) before text after
+DoesAct rules (quits reply) before text after = (text ≡ reply) × (after ≡ record before { ended = true })
+
+-- what a request does once its fields are read
+abbrev pub Performs : {D F : Type 0} → DeskRules D F → Request → SessionState D → Octets
+    → SessionState D → Type 0
+Performs rules request before text after = DoesAct rules (task_of request).act before text after
+
+-- whether an allocation may fail while the fields of a request are read, which then changes nothing
+abbrev pub MayFail : Request → Type 0
+MayFail request = IsTrue (task_of request).may_fail
 
 -- what a request does; where an allocation for its fields fails, nothing happens
 abbrev pub Obeys : {D F : Type 0} → DeskRules D F → Request → SessionState D → Octets

@@ -3,8 +3,7 @@ ghost use Rattle.std.specs.Prelude.{◌≡◌};
 ghost use Rattle.sipl_records.specs.Fields.{fields_of, trim_start};
 ghost use Rattle.sipl_records.specs.Numbers.{number_of};
 ghost use Rattle.sipl_choice.specs.Transports.{transport_named};
-ghost use Rattle.sipl_lines.specs.CommandMeaning.{meaning_of, meaning_if_read};
-ghost use Rattle.sipl_lines.specs.Requests.{add_request, broke_request, call_request, clock_request, command_request, del_request, deps_request, drop_request, endpoint_of, find_request, got_request, hold_request, kind_named, page_request, quit_request, release_request, repair_request, request_of, retry_of, zone_request};
+ghost use Rattle.sipl_lines.specs.Requests.{add_request, broke_request, call_request, clock_request, command_request, del_request, deps_request, drop_request, endpoint_of, find_request, got_request, hold_request, kind_named, meaning_if_read, meaning_of, page_request, quit_request, release_request, repair_request, request_of, retry_of, zone_request};
 ghost use Rattle.sipl_lines.specs.ScriptLines.{as_in_session};
 ghost use Rattle.sipl_lines.specs.ScriptMeaning.{meaning_of_line};
 

@@ -1,8 +1,8 @@
 ghost use Rattle.std.specs.Prelude.{◌≡◌, ◌+◌, ◌≤◌, [], OnOk, OnErr, None, false, true, IsTrue, vec_len, vec_capacity};
-ghost use Rattle.sipl_lines.specs.CommandMeaning.{meaning_of};
 ghost use Rattle.sipl_lines.specs.Gathering.{keeps_lines};
 ghost use Rattle.sipl_lines.specs.Items.{Item};
 ghost use Rattle.sipl_lines.specs.Replies.{AppendsReply};
+ghost use Rattle.sipl_lines.specs.Requests.{meaning_of};
 ghost use Rattle.sipl_lines.specs.Session.{AppendsText, GathersOrLoses, LoadsGathered, MayFail, Obeys, Performs, Replies, at_desk, session_protocol};
 
 use crate::calls::{hear_failure, hear_response, open_call, set_clock};

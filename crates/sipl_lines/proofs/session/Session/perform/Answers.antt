@@ -1,6 +1,5 @@
 use Rattle.std.proofs.Common.{◌≡◌, sym, ap, subst}
-use Rattle.sipl_lines.specs.CommandMeaning.{meaning_of}
-use Rattle.sipl_lines.specs.Requests.{hold, release}
+use Rattle.sipl_lines.specs.Requests.{hold, meaning_of, release}
 use Rattle.sipl_lines.specs.Session.{AppendsText, Performs, at_desk}
 use Rattle.sipl_lines.proofs.Steps.{held_at_desk, released_at_desk}
 use Rattle.sipl_lines.proofs.session.Session.perform.Goals as goal
