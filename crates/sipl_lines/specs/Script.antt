@@ -18,7 +18,8 @@ use Rattle.sipl_lines.specs.Gathering.{gathering_of, after_line, at_end, lost, k
 use Rattle.sipl_lines.specs.Items.{Item, line, end_of_input}
 use Rattle.sipl_lines.specs.Protocol.{Protocol}
 use Rattle.sipl_lines.specs.ReplyText.{refusal_line, text_fault_line}
-use Rattle.sipl_lines.specs.ScriptLines.{ScriptRequest, nothing, zone, script_request_of, workers_in}
+use Rattle.sipl_lines.specs.Requests.{Request, nothing, zone}
+use Rattle.sipl_lines.specs.ScriptLines.{ScriptRequest, session, script_request_of, workers_in}
 use Rattle.sipl_lines.specs.ScriptSteps.{ValueOrCode, MayFail, step_of}
 use Rattle.sipl_lines.specs.ScriptText.{Shows, shown_of}
 use Rattle.sipl_lines.specs.Serving.{ServesWithin}
@@ -88,11 +89,16 @@ MakesStepOf request before text after =
     InWorld (MakesOrRefuses (step_of request)) before text after
     ⊎ (MayFail request × Fails before text after)
 
+-- what the request of a session's line does
+abbrev pub ObeysSession : Request → Play → Octets → Play → Type 0
+ObeysSession nothing before text after = Keeps [] before text after
+ObeysSession (zone apex lines) before text after =
+    Gathers (gathering_of apex lines None) before text after ⊎ Gathers (lost lines) before text after
+ObeysSession request before text after = MakesStepOf (session request) before text after
+
 -- what a request does
 abbrev pub Obeys : ScriptRequest → Play → Octets → Play → Type 0
-Obeys nothing before text after = Keeps [] before text after
-Obeys (zone apex lines) before text after =
-    Gathers (gathering_of apex lines None) before text after ⊎ Gathers (lost lines) before text after
+Obeys (session request) before text after = ObeysSession request before text after
 Obeys request before text after = MakesStepOf request before text after
 
 -- what a line does: it asks for something, or is one of the lines that a zone takes

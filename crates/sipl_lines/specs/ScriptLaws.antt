@@ -6,14 +6,14 @@ use Rattle.sipl_records.specs.Fields.{fields_of}
 use Rattle.sipl_names.specs.Labels.{Octets}
 use Rattle.sipl_lines.specs.Items.{Item, line}
 use Rattle.sipl_lines.specs.Protocol.{IsLineProtocol}
-use Rattle.sipl_lines.specs.Requests.{request_of}
+use Rattle.sipl_lines.specs.Requests.{request_of, too_long}
 use Rattle.sipl_lines.specs.SessionLaws.{gathered_after-long}
 use Rattle.sipl_lines.specs.declared.gather.Gathering.{Gathering}
 use Rattle.sipl_lines.specs.declared.play.Play.{Play}
 use Rattle.sipl_lines.specs.declared.script.Script.{Script}
 use Rattle.sipl_lines.specs.declared.script.Script.TheVariants.{Waiting, Playing, Ended}
 use Rattle.sipl_lines.specs.Script.{Begins, GathersOrLoses, Obeys, PlaysLine, MayReply, has_ended, script_protocol}
-use Rattle.sipl_lines.specs.ScriptLines.{too_long, fields_step_request, script_request_of, workers_in, workers_of}
+use Rattle.sipl_lines.specs.ScriptLines.{session, fields_step_request, script_request_of, workers_in, workers_of}
 
 -- once a script has ended an item has no reply
 ended_silent : (s : Script) (item : Item) → has_ended s ≡ true → MayReply s item [] s
@@ -21,9 +21,9 @@ ended_silent (Waiting settings) item ended = absurd (false≢true ended)
 ended_silent (Playing play) item ended = absurd (false≢true ended)
 ended_silent Ended item ended = (refl, refl)
 
-script_request_of-long : (octets : Octets) → 65536 < length octets → script_request_of octets ≡ too_long
+script_request_of-long : (octets : Octets) → 65536 < length octets → script_request_of octets ≡ session too_long
 script_request_of-long octets long =
-    ap (λ b. if b then too_long else fields_step_request (fields_of octets) (request_of octets)) (lt-ltb 65536 (length octets) long)
+    ap (λ b. if b then session too_long else fields_step_request (fields_of octets) (request_of octets)) (lt-ltb 65536 (length octets) long)
 
 workers_in-long : (octets : Octets) → 65536 < length octets → workers_in octets ≡ None
 workers_in-long octets long = ap (λ b. if b then None else workers_of (fields_of octets)) (lt-ltb 65536 (length octets) long)

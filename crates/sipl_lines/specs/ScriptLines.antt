@@ -3,28 +3,15 @@ use Rattle.std.specs.Prelude.{ℕ, zero, suc, List, [], ◌∷◌, Option, None,
 use lib.Pointwise.{pointwise}
 use Rattle.sipl_records.specs.Fields.{fields_of}
 use Rattle.sipl_records.specs.Numbers.{number_of}
-use Rattle.sipl_records.specs.declared.fault.AddressFault.{AddressFault}
-use Rattle.sipl_choice.specs.declared.endpoint.Endpoint.{Endpoint}
 use Rattle.sipl_srv.specs.declared.fault.DrawsFault.{DrawsFault}
 use Rattle.sipl_names.specs.Labels.{Octets}
 use Rattle.sipl_lines.specs.DrawsField.{draws_of}
-use Rattle.sipl_lines.specs.Requests.{Request, request_of}
-use Rattle.sipl_lines.specs.Requests as session
+use Rattle.sipl_lines.specs.Requests.{Request, request_of, too_long, unknown}
 
--- a request with its fields as they are in the line; a line without fields and a comment ask for
--- nothing, `zone` begins the text of a zone, and all from `drop` on are steps of the world
+-- a request with its fields as they are in the line: that of a session's line, or a step that a session
+-- does not have
 pub data ScriptRequest : Type 0 where
-  nothing : ScriptRequest
-  unknown : ScriptRequest
-  too_long : ScriptRequest
-  zone : Octets → ℕ → ScriptRequest
-  drop : Octets → ScriptRequest
-  add : Octets → ScriptRequest
-  del : Octets → ScriptRequest
-  hold : Result Endpoint AddressFault → ℕ → ScriptRequest
-  release : Result Endpoint AddressFault → ScriptRequest
-  clock : ℕ → ScriptRequest
-  page : ScriptRequest
+  session : Request → ScriptRequest
   hand : Octets → Result (List ℕ) DrawsFault → ScriptRequest
   start : ℕ → Octets → ScriptRequest
   read : ℕ → ScriptRequest
@@ -34,19 +21,9 @@ pub data ScriptRequest : Type 0 where
   abandon : ℕ → ScriptRequest
   forget : Octets → ScriptRequest
 
--- the lines of a session that a script has too; its other commands are unknown
-abbrev pub as_in_session : Request → ScriptRequest
-as_in_session session.nothing = nothing
-as_in_session session.too_long = too_long
-as_in_session (session.zone apex lines) = zone apex lines
-as_in_session (session.drop apex) = drop apex
-as_in_session (session.add r) = add r
-as_in_session (session.del r) = del r
-as_in_session (session.hold endpoint ms) = hold endpoint ms
-as_in_session (session.release endpoint) = release endpoint
-as_in_session (session.clock ms) = clock ms
-as_in_session session.page = page
-as_in_session _ = unknown
+-- an unknown line
+abbrev pub unknown_line : ScriptRequest
+unknown_line = session unknown
 
 -- the number of a worker, of 64 bits, if it is one
 abbrev pub worker_of : Octets → Option ℕ
@@ -60,34 +37,34 @@ only_worker _ = None
 -- a step of the worker whose number is the only field
 abbrev pub worker_request : (ℕ → ScriptRequest) → List Octets → ScriptRequest
 worker_request step others =
-    elim (only_worker others) [ Some w ↦ step w | None ↦ unknown ]
+    elim (only_worker others) [ Some w ↦ step w | None ↦ unknown_line ]
 
 -- `hand URI`, and the fields that give the random words
 abbrev pub hand_request : List Octets → ScriptRequest
-hand_request [] = unknown
+hand_request [] = unknown_line
 hand_request (uri ∷ others) =
-    elim (draws_of others) [ Some draws ↦ hand uri draws | None ↦ unknown ]
+    elim (draws_of others) [ Some draws ↦ hand uri draws | None ↦ unknown_line ]
 
 -- `start W URI`
 abbrev pub start_request : List Octets → ScriptRequest
 start_request (text ∷ uri ∷ []) =
-    elim (worker_of text) [ Some w ↦ start w uri | None ↦ unknown ]
-start_request _ = unknown
+    elim (worker_of text) [ Some w ↦ start w uri | None ↦ unknown_line ]
+start_request _ = unknown_line
 
 -- a commit, if its worker is a number and its words are words
 abbrev pub commit_of : Option ℕ → Option (Result (List ℕ) DrawsFault) → ScriptRequest
 commit_of (Some w) (Some draws) = commit w draws
-commit_of _ _ = unknown
+commit_of _ _ = unknown_line
 
 -- `commit W`, and the fields that give the random words
 abbrev pub commit_request : List Octets → ScriptRequest
-commit_request [] = unknown
+commit_request [] = unknown_line
 commit_request (text ∷ others) = commit_of (worker_of text) (draws_of others)
 
 -- `forget URI`
 abbrev pub forget_request : List Octets → ScriptRequest
 forget_request (uri ∷ []) = forget uri
-forget_request _ = unknown
+forget_request _ = unknown_line
 
 -- what the command word asks for, with the fields after it, where a line of a session asks for this
 abbrev pub step_request : Octets → List Octets → Request → ScriptRequest
@@ -100,17 +77,17 @@ step_request word others request =
     else (if pointwise nat_eq word (codes "settle") then worker_request settle others
     else (if pointwise nat_eq word (codes "abandon") then worker_request abandon others
     else (if pointwise nat_eq word (codes "forget") then forget_request others
-    else as_in_session request)))))))
+    else session request)))))))
 
 -- what the fields of a line ask for
 abbrev pub fields_step_request : List Octets → Request → ScriptRequest
-fields_step_request [] request = as_in_session request
+fields_step_request [] request = session request
 fields_step_request (word ∷ others) request = step_request word others request
 
 -- what a line of a script asks for, once there is a world
 abbrev pub script_request_of : Octets → ScriptRequest
 script_request_of line =
-    if nat_lt 65536 (length line) then too_long
+    if nat_lt 65536 (length line) then session too_long
     else fields_step_request (fields_of line) (request_of line)
 
 -- from 1 to 64 workers

@@ -17,7 +17,8 @@ use Rattle.sipl_uri.specs.declared.question.Question.{Question}
 use Rattle.sipl_book.specs.declared.edit.Edit.TheVariants.{Unload, Add, Remove}
 use Rattle.sipl_interleave.specs.declared.step.Step.{Step}
 use Rattle.sipl_interleave.specs.declared.step.Step.TheVariants.{Change, Hold, Release, Advance, Page, Hand, Start, Read, Commit, Lease, Settle, Abandon, Forget}
-use Rattle.sipl_lines.specs.ScriptLines.{ScriptRequest, too_long, drop, add, del, hold, release, clock, page, hand, start, read, commit, lease, settle, abandon, forget}
+use Rattle.sipl_lines.specs.Requests.{Request, too_long, drop, add, del, hold, release, clock, page}
+use Rattle.sipl_lines.specs.ScriptLines.{ScriptRequest, session, hand, start, read, commit, lease, settle, abandon, forget}
 
 -- a value, or the code of the fault in its stead
 abbrev pub ValueOrCode : Type 0 → Type 0
@@ -54,15 +55,22 @@ question_in uri = with_code uri_code (question_of uri)
 abbrev pub words_in : Result (List ℕ) DrawsFault → ValueOrCode (List ℕ)
 words_in draws = with_code draws_code draws
 
--- the step that a line asks for, or the code of its first faulty field; a line that asks for none is K1
+-- the step that a session's line asks for, or the code of its first faulty field; one that asks for none
+-- is K1
+abbrev pub session_step : Request → ValueOrCode Step
+session_step (drop apex) = step_for (λ name. Change (Unload name)) (apex_of apex)
+session_step (add text) = step_for (λ r. Change (Add r)) (record_in text)
+session_step (del text) = step_for (λ r. Change (Remove r)) (record_in text)
+session_step (hold endpoint ms) = step_for (λ it. Hold it ms) (endpoint_in endpoint)
+session_step (release endpoint) = step_for Release (endpoint_in endpoint)
+session_step (clock ms) = Ok (Advance ms)
+session_step page = Ok Page
+session_step too_long = Err (codes "K2")
+session_step _ = Err (codes "K1")
+
+-- the step that a line asks for, or the code of its first faulty field
 abbrev pub step_of : ScriptRequest → ValueOrCode Step
-step_of (drop apex) = step_for (λ name. Change (Unload name)) (apex_of apex)
-step_of (add text) = step_for (λ r. Change (Add r)) (record_in text)
-step_of (del text) = step_for (λ r. Change (Remove r)) (record_in text)
-step_of (hold endpoint ms) = step_for (λ it. Hold it ms) (endpoint_in endpoint)
-step_of (release endpoint) = step_for Release (endpoint_in endpoint)
-step_of (clock ms) = Ok (Advance ms)
-step_of page = Ok Page
+step_of (session request) = session_step request
 step_of (hand uri draws) = hand_step (question_in uri) (words_in draws)
 step_of (start w uri) = step_for (Start w) (question_in uri)
 step_of (read w) = Ok (Read w)
@@ -71,15 +79,18 @@ step_of (lease w) = Ok (Lease w)
 step_of (settle w) = Ok (Settle w)
 step_of (abandon w) = Ok (Abandon w)
 step_of (forget uri) = step_for Forget (question_in uri)
-step_of too_long = Err (codes "K2")
-step_of _ = Err (codes "K1")
+
+-- whether an allocation may fail while the fields of a session's line are read
+abbrev pub SessionMayFail : Request → Type 0
+SessionMayFail (drop apex) = Unit {0}
+SessionMayFail (add text) = Unit {0}
+SessionMayFail (del text) = Unit {0}
+SessionMayFail _ = ⊥
 
 -- whether an allocation may fail while the fields of a line are read, which then changes nothing:
 -- a fault in the scheme or the octets of a URI is found before anything is allocated
 abbrev pub MayFail : ScriptRequest → Type 0
-MayFail (drop apex) = Unit {0}
-MayFail (add text) = Unit {0}
-MayFail (del text) = Unit {0}
+MayFail (session request) = SessionMayFail request
 MayFail (hand uri draws) = IsTrue (has_scheme_and_octets uri)
 MayFail (start w uri) = IsTrue (has_scheme_and_octets uri)
 MayFail (forget uri) = IsTrue (has_scheme_and_octets uri)

@@ -4,12 +4,9 @@ ghost use Rattle.sipl_records.specs.Fields.{fields_of, trim_start};
 ghost use Rattle.sipl_records.specs.Numbers.{number_of};
 ghost use Rattle.sipl_choice.specs.Transports.{transport_named};
 ghost use Rattle.sipl_lines.specs.Requests.{add_request, broke_request, call_request, clock_request, command_request, del_request, deps_request, drop_request, endpoint_of, find_request, got_request, hold_request, kind_named, meaning_if_read, meaning_of, page_request, quit_request, release_request, repair_request, request_of, retry_of, zone_request};
-ghost use Rattle.sipl_lines.specs.ScriptLines.{as_in_session};
-ghost use Rattle.sipl_lines.specs.ScriptMeaning.{meaning_of_line};
 
 use crate::command_word::CommandWord;
 use crate::draws_field::read_draws;
-use crate::script_line::ScriptLine;
 use sipl_choice::{Endpoint, Transport};
 use sipl_records::{Address, AddressFault, next_field, read_number, trim_start};
 use sipl_srv::{Draws, DrawsFault};
@@ -86,25 +83,6 @@ pub(crate) fn read_command(line: &[u8]) -> Command<'_>
     match read_fields(word, rest) {
         Some(command) => command,
         None => Command::Unknown,
-    }
-}
-
-// What a line of a session asks for in a script: a command that scripts do not have is unknown.
-pub(crate) fn read_shared_line(line: &[u8]) -> ScriptLine<'_>
-    ensures { meaning_of_line result ≡ as_in_session (request_of line.now) }
-{
-    match read_command(line) {
-        Command::Nothing => ScriptLine::Nothing,
-        Command::TooLong => ScriptLine::TooLong,
-        Command::Zone(apex, lines) => ScriptLine::Zone(apex, lines),
-        Command::Drop(apex) => ScriptLine::Drop(apex),
-        Command::Add(record) => ScriptLine::Add(record),
-        Command::Del(record) => ScriptLine::Del(record),
-        Command::Hold(endpoint, ms) => ScriptLine::Hold(endpoint, ms),
-        Command::Release(endpoint) => ScriptLine::Release(endpoint),
-        Command::Clock(to) => ScriptLine::Clock(to),
-        Command::Page => ScriptLine::Page,
-        _ => ScriptLine::Unknown,
     }
 }
 

@@ -2,9 +2,11 @@
 ghost use Rattle.std.specs.Prelude.{◌≡◌, ◌+◌, ◌≤◌, None, OnOk, OnErr, vec_len, vec_capacity};
 ghost use Rattle.sipl_lines.specs.Items.{Item};
 ghost use Rattle.sipl_lines.specs.Script.{GathersOrLoses, InWorld, Loads, Makes, MakesStepOf, Obeys, PlaysItem};
+ghost use Rattle.sipl_lines.specs.ScriptLines.{script_request_of};
 ghost use Rattle.sipl_lines.specs.ScriptMeaning.{meaning_of_line};
 ghost use Rattle.sipl_lines.specs.Session.{AppendsText};
 
+use crate::command::Command;
 use crate::command_word::CommandWord;
 use crate::gather::{Gathered, Gathering};
 use crate::reply::{write_refusal, write_text_fault};
@@ -58,7 +60,7 @@ impl Play {
                 gathering.push(line);
                 self.gather(alloc, gathering, out);
             }
-            None => self.obey(alloc, &read_script_line(line), out),
+            None => self.obey(alloc, line, out),
         }
         Ok(())
     }
@@ -80,17 +82,17 @@ impl Play {
     }
 
     // Does what a line asks for, and appends its reply.
-    fn obey(&mut self, alloc: Global, line: &ScriptLine<'_>, out: &mut Vec<u8>)
+    fn obey(&mut self, alloc: Global, line: &[u8], out: &mut Vec<u8>)
         requires { vec_len out.old + MAX_SCRIPT_REPLY_LEN ≤ vec_capacity out.old }
-        ensures { AppendsText (Obeys (meaning_of_line line.now))
+        ensures { AppendsText (Obeys (script_request_of line.now))
             self.old out.old.items self.new out.new.items }
     {
-        match line {
-            ScriptLine::Nothing => {}
-            ScriptLine::Zone(apex, lines) => {
-                self.gather(alloc, Gathering::new(alloc, apex, *lines, None), out);
+        match read_script_line(line) {
+            ScriptLine::Session(Command::Nothing) => {}
+            ScriptLine::Session(Command::Zone(apex, lines)) => {
+                self.gather(alloc, Gathering::new(alloc, apex, lines, None), out);
             }
-            _ => self.make(alloc, line, out),
+            asked => self.make(alloc, &asked, out),
         }
     }
 

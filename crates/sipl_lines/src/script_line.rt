@@ -4,41 +4,20 @@ ghost use Rattle.sipl_records.specs.Fields.{fields_of};
 ghost use Rattle.sipl_records.specs.Numbers.{number_of};
 ghost use Rattle.sipl_lines.specs.Requests.{request_of};
 ghost use Rattle.sipl_lines.specs.ScriptLines.{ScriptRequest, commit_request, forget_request, hand_request, only_worker, script_request_of, some_workers, start_request, step_request, worker_request, workers_in};
-ghost use Rattle.sipl_lines.specs.ScriptMeaning.{meaning_of_line};
+ghost use Rattle.sipl_lines.specs.ScriptMeaning.{meaning_if_read, meaning_of_line};
 
-use crate::command::{MAX_LINE_LEN, read_shared_line};
+use crate::command::{Command, MAX_LINE_LEN, read_command};
 use crate::draws_field::read_draws;
-use sipl_choice::Endpoint;
 use sipl_interleave::MAX_WORKERS;
-use sipl_records::{AddressFault, next_field, read_number};
+use sipl_records::{next_field, read_number};
 use sipl_srv::{Draws, DrawsFault};
 
 // A line of a script, once there is a world, with its fields as they are in the line. Workers are
 // numbered from 0.
 #[derive(Clone, Copy)]
 pub(crate) enum ScriptLine<'a> {
-    // A line without fields, or a comment.
-    Nothing,
-    // An unknown line, or one with other fields than it takes: K1.
-    Unknown,
-    // More octets than a line may have: K2.
-    TooLong,
-    // `zone APEX COUNT`: loads the zone whose text is in so many lines after it.
-    Zone(&'a [u8], u64),
-    // `drop APEX`: unloads a zone.
-    Drop(&'a [u8]),
-    // `add RECORD`: adds a record.
-    Add(&'a [u8]),
-    // `del RECORD`: removes a record.
-    Del(&'a [u8]),
-    // `hold TRANSPORT ADDRESS PORT MS`: holds an endpoint for some milliseconds.
-    Hold(Result<Endpoint, AddressFault>, u64),
-    // `release TRANSPORT ADDRESS PORT`: ends an endpoint's hold.
-    Release(Result<Endpoint, AddressFault>),
-    // `clock MS`: sets the time, in milliseconds.
-    Clock(u64),
-    // `page`: turns the page of the journal.
-    Page,
+    // A line as of a session. A command that scripts do not have is refused as an unknown one: K1.
+    Session(Command<'a>),
     // `hand URI DRAWS`: asks for the kept answer to a URI, for these random words.
     Hand(&'a [u8], Draws),
     // `hand URI DRAWS` with faulty random words.
@@ -66,17 +45,21 @@ pub(crate) fn read_script_line(line: &[u8]) -> ScriptLine<'_>
     ensures { meaning_of_line result ≡ script_request_of line.now }
 {
     if line.len() > MAX_LINE_LEN {
-        return ScriptLine::TooLong;
+        return ScriptLine::Session(Command::TooLong);
     }
-    match next_field(line) {
-        Some((word, rest)) => step_line(word, rest, line),
-        None => read_shared_line(line),
+    let Some((word, rest)) = next_field(line) else {
+        return ScriptLine::Session(read_command(line));
+    };
+    match read_step_fields(word, rest, line) {
+        Some(line) => line,
+        None => ScriptLine::Session(Command::Unknown),
     }
 }
 
-// What the command word and the fields after it ask for, or the line as one of a session.
-fn step_line<'a>(word: &[u8], rest: &'a [u8], line: &'a [u8]) -> ScriptLine<'a>
-    ensures { meaning_of_line result
+// What the command word and the fields after it ask for, or the line as one of a session. `None` where
+// the fields are not as the word takes them.
+fn read_step_fields<'a>(word: &[u8], rest: &'a [u8], line: &'a [u8]) -> Option<ScriptLine<'a>>
+    ensures { meaning_if_read result
         ≡ step_request word.now (fields_of rest.now) (request_of line.now) }
 {
     if word == b"hand".as_slice() {
@@ -96,105 +79,82 @@ fn step_line<'a>(word: &[u8], rest: &'a [u8], line: &'a [u8]) -> ScriptLine<'a>
     } else if word == b"forget".as_slice() {
         forget_line(rest)
     } else {
-        read_shared_line(line)
+        Some(ScriptLine::Session(read_command(line)))
     }
 }
 
 // `hand URI DRAWS`.
-fn hand_line(rest: &[u8]) -> ScriptLine<'_>
-    ensures { meaning_of_line result ≡ hand_request (fields_of rest.now) }
+fn hand_line(rest: &[u8]) -> Option<ScriptLine<'_>>
+    ensures { meaning_if_read result ≡ hand_request (fields_of rest.now) }
 {
-    let Some((uri, rest)) = next_field(rest) else {
-        return ScriptLine::Unknown;
-    };
-    match read_draws(rest) {
-        Some(Ok(draws)) => ScriptLine::Hand(uri, draws),
-        Some(Err(fault)) => ScriptLine::HandFault(uri, fault),
-        None => ScriptLine::Unknown,
+    let (uri, rest) = next_field(rest)?;
+    match read_draws(rest)? {
+        Ok(draws) => Some(ScriptLine::Hand(uri, draws)),
+        Err(fault) => Some(ScriptLine::HandFault(uri, fault)),
     }
 }
 
 // `start W URI`.
-fn start_line(rest: &[u8]) -> ScriptLine<'_>
-    ensures { meaning_of_line result ≡ start_request (fields_of rest.now) }
+fn start_line(rest: &[u8]) -> Option<ScriptLine<'_>>
+    ensures { meaning_if_read result ≡ start_request (fields_of rest.now) }
 {
-    let Some((worker, rest)) = next_field(rest) else {
-        return ScriptLine::Unknown;
-    };
-    let Some((uri, rest)) = next_field(rest) else {
-        return ScriptLine::Unknown;
-    };
+    let (worker, rest) = next_field(rest)?;
+    let (uri, rest) = next_field(rest)?;
     if next_field(rest).is_some() {
-        return ScriptLine::Unknown;
+        return None;
     }
-    match read_number(worker, u64::MAX) {
-        Some(worker) => ScriptLine::Start(worker, uri),
-        None => ScriptLine::Unknown,
-    }
+    Some(ScriptLine::Start(read_number(worker, u64::MAX)?, uri))
 }
 
 // `commit W DRAWS`.
-fn commit_line(rest: &[u8]) -> ScriptLine<'_>
-    ensures { meaning_of_line result ≡ commit_request (fields_of rest.now) }
+fn commit_line(rest: &[u8]) -> Option<ScriptLine<'_>>
+    ensures { meaning_if_read result ≡ commit_request (fields_of rest.now) }
 {
-    let Some((worker, rest)) = next_field(rest) else {
-        return ScriptLine::Unknown;
-    };
-    match (read_number(worker, u64::MAX), read_draws(rest)) {
-        (Some(worker), Some(Ok(draws))) => ScriptLine::Commit(worker, draws),
-        (Some(worker), Some(Err(fault))) => ScriptLine::CommitFault(worker, fault),
-        _ => ScriptLine::Unknown,
+    let (worker, rest) = next_field(rest)?;
+    let worker = read_number(worker, u64::MAX)?;
+    match read_draws(rest)? {
+        Ok(draws) => Some(ScriptLine::Commit(worker, draws)),
+        Err(fault) => Some(ScriptLine::CommitFault(worker, fault)),
     }
 }
 
 // `forget URI`.
-fn forget_line(rest: &[u8]) -> ScriptLine<'_>
-    ensures { meaning_of_line result ≡ forget_request (fields_of rest.now) }
+fn forget_line(rest: &[u8]) -> Option<ScriptLine<'_>>
+    ensures { meaning_if_read result ≡ forget_request (fields_of rest.now) }
 {
-    match next_field(rest) {
-        Some((uri, rest)) if next_field(rest).is_none() => ScriptLine::Forget(uri),
-        _ => ScriptLine::Unknown,
+    let (uri, rest) = next_field(rest)?;
+    if next_field(rest).is_some() {
+        return None;
     }
+    Some(ScriptLine::Forget(uri))
 }
 
 // `read W`.
-fn read_line(rest: &[u8]) -> ScriptLine<'_>
-    ensures { meaning_of_line result ≡ worker_request ScriptRequest.read (fields_of rest.now) }
+fn read_line(rest: &[u8]) -> Option<ScriptLine<'_>>
+    ensures { meaning_if_read result ≡ worker_request ScriptRequest.read (fields_of rest.now) }
 {
-    match read_worker(rest) {
-        Some(worker) => ScriptLine::Read(worker),
-        None => ScriptLine::Unknown,
-    }
+    Some(ScriptLine::Read(read_worker(rest)?))
 }
 
 // `lease W`.
-fn lease_line(rest: &[u8]) -> ScriptLine<'_>
-    ensures { meaning_of_line result ≡ worker_request ScriptRequest.lease (fields_of rest.now) }
+fn lease_line(rest: &[u8]) -> Option<ScriptLine<'_>>
+    ensures { meaning_if_read result ≡ worker_request ScriptRequest.lease (fields_of rest.now) }
 {
-    match read_worker(rest) {
-        Some(worker) => ScriptLine::Lease(worker),
-        None => ScriptLine::Unknown,
-    }
+    Some(ScriptLine::Lease(read_worker(rest)?))
 }
 
 // `settle W`.
-fn settle_line(rest: &[u8]) -> ScriptLine<'_>
-    ensures { meaning_of_line result ≡ worker_request ScriptRequest.settle (fields_of rest.now) }
+fn settle_line(rest: &[u8]) -> Option<ScriptLine<'_>>
+    ensures { meaning_if_read result ≡ worker_request ScriptRequest.settle (fields_of rest.now) }
 {
-    match read_worker(rest) {
-        Some(worker) => ScriptLine::Settle(worker),
-        None => ScriptLine::Unknown,
-    }
+    Some(ScriptLine::Settle(read_worker(rest)?))
 }
 
 // `abandon W`.
-fn abandon_line(rest: &[u8]) -> ScriptLine<'_>
-    ensures { meaning_of_line result ≡ worker_request ScriptRequest.abandon (fields_of rest.now) }
+fn abandon_line(rest: &[u8]) -> Option<ScriptLine<'_>>
+    ensures { meaning_if_read result ≡ worker_request ScriptRequest.abandon (fields_of rest.now) }
 {
-    match read_worker(rest) {
-        Some(worker) => ScriptLine::Abandon(worker),
-        None => ScriptLine::Unknown,
-    }
+    Some(ScriptLine::Abandon(read_worker(rest)?))
 }
 
 // The number of a worker, if it is the only field.

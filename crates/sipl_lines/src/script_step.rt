@@ -1,9 +1,11 @@
 // The step of the world that a line of a script asks for.
 ghost use Rattle.std.specs.Prelude.{◌≡◌, ◌⊎◌, ◌≤◌, Ok, Err, codes, length, IfOk, IfErr, IsTrue};
 ghost use Rattle.sipl_uri.specs.Uris.{has_scheme_and_octets};
+ghost use Rattle.sipl_lines.specs.Requests.{meaning_of};
 ghost use Rattle.sipl_lines.specs.ScriptMeaning.{meaning_of_line};
-ghost use Rattle.sipl_lines.specs.ScriptSteps.{MayFail, apex_of, question_in, record_in, step_of};
+ghost use Rattle.sipl_lines.specs.ScriptSteps.{MayFail, SessionMayFail, apex_of, question_in, record_in, session_step, step_of};
 
+use crate::command::Command;
 use crate::desk_commands::{read_absolute_name, read_absolute_record, read_question};
 use crate::script_line::ScriptLine;
 use sipl_book::Edit;
@@ -22,14 +24,7 @@ pub(crate) fn read_step(alloc: Global, line: &ScriptLine<'_>) -> Result<Step, &'
     ensures short { IfErr result (λ code. length code.now ≤ 6) }
 {
     match line {
-        ScriptLine::Drop(apex) => Ok(Step::Change(Edit::Unload(read_apex(alloc, apex)?))),
-        ScriptLine::Add(text) => Ok(Step::Change(Edit::Add(read_record(alloc, text)?))),
-        ScriptLine::Del(text) => Ok(Step::Change(Edit::Remove(read_record(alloc, text)?))),
-        ScriptLine::Hold(Ok(endpoint), ms) => Ok(Step::Hold(*endpoint, *ms)),
-        ScriptLine::Release(Ok(endpoint)) => Ok(Step::Release(*endpoint)),
-        ScriptLine::Hold(Err(fault), _) | ScriptLine::Release(Err(fault)) => Err(fault.code()),
-        ScriptLine::Clock(to) => Ok(Step::Advance(*to)),
-        ScriptLine::Page => Ok(Step::Page),
+        ScriptLine::Session(command) => read_session_step(alloc, command),
         ScriptLine::Hand(uri, draws) => Ok(Step::Hand(read_uri(alloc, uri)?, *draws)),
         ScriptLine::HandFault(uri, fault) => {
             read_uri(alloc, uri)?;
@@ -43,8 +38,28 @@ pub(crate) fn read_step(alloc: Global, line: &ScriptLine<'_>) -> Result<Step, &'
         ScriptLine::Settle(worker) => Ok(Step::Settle(*worker as usize)),
         ScriptLine::Abandon(worker) => Ok(Step::Abandon(*worker as usize)),
         ScriptLine::Forget(uri) => Ok(Step::Forget(read_uri(alloc, uri)?)),
-        ScriptLine::TooLong => Err("K2"),
-        ScriptLine::Unknown | ScriptLine::Nothing | ScriptLine::Zone(_, _) => Err("K1"),
+    }
+}
+
+// The step that a session's command asks for, or the code with which it is refused: K1 where it asks
+// for none, as one that scripts do not have.
+fn read_session_step(alloc: Global, command: &Command<'_>) -> Result<Step, &'static str>
+    ensures ok { IfOk result (λ step. session_step (meaning_of command.now) ≡ Ok step) }
+    ensures err { IfErr result (λ code. (session_step (meaning_of command.now) ≡ Err code.now)
+        ⊎ (SessionMayFail (meaning_of command.now) × (code.now ≡ codes "Memory"))) }
+    ensures short { IfErr result (λ code. length code.now ≤ 6) }
+{
+    match command {
+        Command::Drop(apex) => Ok(Step::Change(Edit::Unload(read_apex(alloc, apex)?))),
+        Command::Add(text) => Ok(Step::Change(Edit::Add(read_record(alloc, text)?))),
+        Command::Del(text) => Ok(Step::Change(Edit::Remove(read_record(alloc, text)?))),
+        Command::Hold(Ok(endpoint), ms) => Ok(Step::Hold(*endpoint, *ms)),
+        Command::Release(Ok(endpoint)) => Ok(Step::Release(*endpoint)),
+        Command::Hold(Err(fault), _) | Command::Release(Err(fault)) => Err(fault.code()),
+        Command::Clock(to) => Ok(Step::Advance(*to)),
+        Command::Page => Ok(Step::Page),
+        Command::TooLong => Err("K2"),
+        _ => Err("K1"),
     }
 }
 
