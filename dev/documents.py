@@ -177,7 +177,7 @@ def example_settings() -> str:
 
 # By the name of a table the file, or the folder, that has its words, and what they are in it.
 WORDS = {
-    "session": ("sipl_lines/specs/CommandWords.antt", r'^text_of_word \w+ = codes "(\w+)"'),
+    "session": ("sipl_lines/specs/Requests.antt", r'^text_of_word command\.\w+ = codes "(\w+)"'),
     "script": ("sipl_lines/specs/ScriptLines.antt", r'codes "(\w+)"\) then \w+_request'),
     "control": ("sipl_daemon/src/control.rt", r'^ +"(\w+)" =>'),
     "program": ("siploc/src",

@@ -123,8 +123,7 @@ CASES = {"a record type": ["sipl_records/src/kind.rt", "sipl_records/src/data.rt
          "a family of addresses": ["sipl_choice/src/families.rt"], "a transport": ["sipl_choice/src/transport.rt"],
          "a reason for no targets": ["sipl_plans/src/answer.rt"],
          "a directive of master files": ["sipl_masterfile/src/statement.rt"],
-         "a line of a session": ["sipl_lines/src/command.rt", "sipl_lines/src/command_word.rt",
-                                 "sipl_lines/specs/Requests.antt"],
+         "a line of a session": ["sipl_lines/src/command.rt", "sipl_lines/specs/Requests.antt"],
          "a line of a script": ["sipl_interleave/src/step.rt", "sipl_interleave/src/reply.rt"]}
 # Each kind of list that a client or a tool may have, by how many of its words one after another are one.
 SORTS = {"types": 4, "families": 3, "reasons": 3, "session": 5, "script": 5, "settings": 4, "settings of siplocd": 6}

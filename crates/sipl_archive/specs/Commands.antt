@@ -5,8 +5,8 @@ use lib.Pointwise.{pointwise}
 use Rattle.sipl_names.specs.Labels.{Octets}
 use Rattle.sipl_records.specs.Fields.{fields_of}
 use Rattle.sipl_records.specs.Numbers.{number_of}
-use Rattle.sipl_lines.specs.CommandWords.{is_word}
-use Rattle.sipl_lines.specs.declared.command_word.CommandWord.TheVariants.{Zone, Drop, Add, Del, Find, Hold, Release, Clock}
+use Rattle.sipl_lines.specs.Requests.{is_word}
+use Rattle.sipl_lines.specs.declared.command.CommandWord.TheVariants.{Zone, Drop, Add, Del, Find, Hold, Release, Clock}
 use Rattle.sipl_lines.specs.Lines.{without_cr}
 
 -- the first line of a text, without its LF

@@ -14,8 +14,8 @@ use Rattle.sipl_book.specs.declared.edit.Edit.{Edit}
 use Rattle.sipl_book.specs.declared.edit.Edit.TheVariants as edit
 use Rattle.sipl_book.specs.declared.event.Event.{Event}
 use Rattle.sipl_book.specs.declared.event.Event.TheVariants as event
-use Rattle.sipl_lines.specs.CommandWords.{text_of_word, word_start}
-use Rattle.sipl_lines.specs.declared.command_word.CommandWord.TheVariants as command
+use Rattle.sipl_lines.specs.Requests.{text_of_word, word_start}
+use Rattle.sipl_lines.specs.declared.command.CommandWord.TheVariants as command
 use Rattle.sipl_lines.specs.ReplyText.{answer_text, number_field, word_field}
 use Rattle.sipl_archive.specs.Sorting.{listed, zones_of}
 

@@ -1,7 +1,7 @@
 //! Changes and records as the lines of a session.
 ghost use Rattle.std.specs.Prelude.{◌≡◌, [], ◌∷◌, ◌++◌, length, decimal, IfOk, OnOk};
-ghost use Rattle.sipl_lines.specs.CommandWords.{ok_words};
-ghost use Rattle.sipl_lines.specs.declared.command_word.CommandWord.TheVariants as command;
+ghost use Rattle.sipl_lines.specs.Requests.{ok_words};
+ghost use Rattle.sipl_lines.specs.declared.command.CommandWord.TheVariants as command;
 ghost use Rattle.sipl_lines.specs.ReplyText.{answer_text, counts_line, number_field};
 ghost use Rattle.sipl_lines.specs.ReplyText.{target_line, target_lines};
 ghost use Rattle.sipl_archive.specs.Text.{clock_line, edit_lines, endpoint_text, event_lines};

@@ -7,9 +7,9 @@ use Rattle.sipl_names.proofs.Public.{length-printed_label}
 use Rattle.sipl_records.specs.Kinds.{text_of_kind}
 use Rattle.sipl_records.specs.declared.kind.Kind.{Kind}
 use Rattle.sipl_records.specs.declared.kind.Kind.TheVariants.{Exists}
-use Rattle.sipl_lines.specs.CommandWords.{ok_words}
-use Rattle.sipl_lines.specs.declared.command_word.CommandWord.{CommandWord}
-use Rattle.sipl_lines.specs.declared.command_word.CommandWord.TheVariants as command
+use Rattle.sipl_lines.specs.Requests.{ok_words}
+use Rattle.sipl_lines.specs.declared.command.CommandWord.{CommandWord}
+use Rattle.sipl_lines.specs.declared.command.CommandWord.TheVariants as command
 
 length-printed : (labels : Labels) → length (flat_map printed_label labels) ≤ 4 * length (wire_of labels)
 length-printed [] = omega arith

@@ -29,8 +29,8 @@ use Rattle.sipl_book.specs.declared.outcome.Handed.{Handed}
 use Rattle.sipl_lines.specs.Commands.{Keeps, Refuses, MovesTo, CallAct, hear, set_clock, open_call}
 use Rattle.sipl_lines.specs.Desk.{DeskRules}
 use Rattle.sipl_lines.specs.ReplyText.{answer_text, counts_line, number_field, word_field}
-use Rattle.sipl_lines.specs.CommandWords.{ok_words}
-use Rattle.sipl_lines.specs.declared.command_word.CommandWord.TheVariants as command
+use Rattle.sipl_lines.specs.Requests.{ok_words}
+use Rattle.sipl_lines.specs.declared.command.CommandWord.TheVariants as command
 
 -- a desk, and the last call that was made there
 pub record CallDesk (D : Type 0) : Type 0 where

@@ -34,9 +34,8 @@ use Rattle.sipl_lines.specs.declared.desk_commands.RecordEdit.{RecordEdit}
 use Rattle.sipl_lines.specs.declared.desk_commands.RecordEdit.TheVariants.{Add as AddRecord, Remove as RemoveRecord}
 use Rattle.sipl_lines.specs.Desk.{DeskRules}
 use Rattle.sipl_lines.specs.ReplyText.{counts_line, refusal_line, text_fault_line, HasTargets, answer_text, evidence_text}
-use Rattle.sipl_lines.specs.CommandWords.{fault_words, ok_words}
-use Rattle.sipl_lines.specs.declared.command_word.CommandWord.TheVariants as command
-use Rattle.sipl_lines.specs.Requests.{Request, nothing, unknown, too_long, zone, drop, add, del, find, deps, repair, page, hold, release, clock, call, got, broke, quit}
+use Rattle.sipl_lines.specs.Requests.{fault_words, ok_words, Request, nothing, unknown, too_long, zone, drop, add, del, find, deps, repair, page, hold, release, clock, call, got, broke, quit}
+use Rattle.sipl_lines.specs.declared.command.CommandWord.TheVariants as command
 
 -- this is the reply, and the desk is as it was
 abbrev pub Keeps : {D : Type 0} → Octets → D → Octets → D → Type 0

@@ -10,7 +10,6 @@ pub mod ServeFault
 pub mod Ended
 pub mod Serving
 pub mod DrawsField
-pub mod CommandWords
 pub mod Requests
 pub mod ZoneLines
 pub mod Gathering

@@ -11,8 +11,8 @@ use Rattle.sipl_names.specs.Labels.{Octets}
 use Rattle.sipl_names.specs.NamePrint.{text_of}
 use Rattle.sipl_records.specs.Kinds.{text_of_kind}
 use Rattle.sipl_evidence.specs.Items.{Item}
-use Rattle.sipl_lines.specs.CommandWords.{ok_words}
-use Rattle.sipl_lines.specs.declared.command_word.CommandWord.TheVariants as command
+use Rattle.sipl_lines.specs.Requests.{ok_words}
+use Rattle.sipl_lines.specs.declared.command.CommandWord.TheVariants as command
 
 -- a word with a space before it
 abbrev pub word_field : Octets → Octets

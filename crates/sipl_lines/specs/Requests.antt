@@ -1,5 +1,5 @@
--- What a line of a session asks for.
-use Rattle.std.specs.Prelude.{ℕ, Bool, false, List, [], ◌∷◌, Option, None, Some, Result, Ok, Err, codes, nat_eq, nat_lt, length, option_map, unwrap_or, if◌then◌else◌, ◌==◌}
+-- The words of a session's commands and of their replies, and what a line asks for.
+use Rattle.std.specs.Prelude.{ℕ, Bool, false, List, [], ◌∷◌, ◌++◌, Option, None, Some, Result, Ok, Err, codes, nat_eq, nat_lt, length, option_map, unwrap_or, if◌then◌else◌, ◌==◌}
 use lib.Pointwise.{pointwise}
 use Rattle.sipl_records.specs.Fields.{fields_of, trim_start, after_field}
 use Rattle.sipl_records.specs.Numbers.{number_of}
@@ -13,11 +13,47 @@ use Rattle.sipl_srv.specs.declared.fault.DrawsFault.{DrawsFault}
 use Rattle.sipl_tx.specs.declared.parts.Kind.{Kind}
 use Rattle.sipl_tx.specs.declared.parts.Kind.TheVariants.{Invite, Other}
 use Rattle.sipl_names.specs.Labels.{Octets}
-use Rattle.sipl_lines.specs.CommandWords.{is_word}
 use Rattle.sipl_lines.specs.declared.command.Command.{Command}
 use Rattle.sipl_lines.specs.declared.command.Command.TheVariants.{Nothing, Unknown, TooLong, Zone, Drop, Add, Del, Find, Deps, Repair, Page, Hold, Release, Clock, Call, Got, Broke, Quit}
 use Rattle.sipl_lines.specs.DrawsField.{draws_of}
-use Rattle.sipl_lines.specs.declared.command_word.CommandWord.TheVariants as command
+use Rattle.sipl_lines.specs.declared.command.CommandWord.{CommandWord}
+use Rattle.sipl_lines.specs.declared.command.CommandWord.TheVariants as command
+
+-- the first word of a command's line
+abbrev pub text_of_word : CommandWord → Octets
+text_of_word command.Zone = codes "zone"
+text_of_word command.Drop = codes "drop"
+text_of_word command.Add = codes "add"
+text_of_word command.Del = codes "del"
+text_of_word command.Find = codes "find"
+text_of_word command.Deps = codes "deps"
+text_of_word command.Repair = codes "repair"
+text_of_word command.Page = codes "page"
+text_of_word command.Hold = codes "hold"
+text_of_word command.Release = codes "release"
+text_of_word command.Clock = codes "clock"
+text_of_word command.Call = codes "call"
+text_of_word command.Got = codes "got"
+text_of_word command.Broke = codes "broke"
+text_of_word command.Quit = codes "quit"
+
+-- whether this is the word
+abbrev pub is_word : CommandWord → Octets → Bool
+is_word named word = pointwise nat_eq word (text_of_word named)
+
+-- the word and a space: how the line of a command with fields begins
+abbrev pub word_start : CommandWord → Octets
+word_start named = text_of_word named ++ codes " "
+
+-- the words of the reply to such a command that is accepted
+abbrev pub ok_words : CommandWord → Octets
+ok_words named = codes "ok " ++ text_of_word named
+
+-- the words of the reply that says where a fault is in what such a command takes
+abbrev pub fault_words : CommandWord → Octets
+fault_words named = codes "err " ++ text_of_word named
+
+-- ---- requests
 
 -- a request with its fields; a line without fields and a comment ask for nothing
 pub data Request : Type 0 where

@@ -18,7 +18,7 @@ use Rattle.sipl_lines.specs.Gathering.{gathering_of, after_line, at_end, lost, k
 use Rattle.sipl_lines.specs.Items.{Item, line, end_of_input}
 use Rattle.sipl_lines.specs.Protocol.{Protocol}
 use Rattle.sipl_lines.specs.ReplyText.{refusal_line, text_fault_line}
-use Rattle.sipl_lines.specs.Requests.{Request, nothing, zone}
+use Rattle.sipl_lines.specs.Requests.{Request, nothing, zone, fault_words}
 use Rattle.sipl_lines.specs.ScriptLines.{ScriptRequest, session, script_request_of, workers_in}
 use Rattle.sipl_lines.specs.ScriptSteps.{ValueOrCode, MayFail, step_of}
 use Rattle.sipl_lines.specs.ScriptText.{Shows, shown_of}
@@ -34,8 +34,7 @@ use Rattle.sipl_lines.specs.declared.gather.Gathering.{Gathering}
 use Rattle.sipl_lines.specs.declared.play.Play.{Play}
 use Rattle.sipl_lines.specs.declared.script.Script.{Script}
 use Rattle.sipl_lines.specs.declared.script.Script.TheVariants.{Waiting, Playing, Ended}
-use Rattle.sipl_lines.specs.CommandWords.{fault_words}
-use Rattle.sipl_lines.specs.declared.command_word.CommandWord.TheVariants as command
+use Rattle.sipl_lines.specs.declared.command.CommandWord.TheVariants as command
 
 -- ---- once there is a world
 

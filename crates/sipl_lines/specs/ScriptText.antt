@@ -24,8 +24,8 @@ use Rattle.sipl_lines.specs.Commands.{page_text}
 use Rattle.sipl_lines.specs.ReplyText.{HasTargets, answer_text, counts_line, number_field, refusal_line, word_field}
 use Rattle.sipl_lines.specs.declared.script_reply.Shown.{Shown}
 use Rattle.sipl_lines.specs.declared.script_reply.Shown.TheVariants as shown
-use Rattle.sipl_lines.specs.CommandWords.{ok_words}
-use Rattle.sipl_lines.specs.declared.command_word.CommandWord.TheVariants as command
+use Rattle.sipl_lines.specs.Requests.{ok_words}
+use Rattle.sipl_lines.specs.declared.command.CommandWord.TheVariants as command
 
 -- what the reply to a step shows beside its result: the command, the counts of a zone's text, and the
 -- time to which the clock is set

@@ -4,12 +4,12 @@ ghost use Rattle.sipl_uri.specs.Uris.{has_scheme_and_octets, question_of};
 ghost use Rattle.sipl_failover.specs.FailoverRun.{Event};
 ghost use Rattle.sipl_failover.specs.Rules.{refusal_of};
 ghost use Rattle.sipl_lines.specs.Calls.{CallsUri, GoesOn, HearsOf, Opens, OpensOver, Reports, SetsClock, is_open, with_call};
-ghost use Rattle.sipl_lines.specs.CommandWords.{ok_words};
-ghost use Rattle.sipl_lines.specs.declared.command_word.CommandWord.TheVariants as command;
+ghost use Rattle.sipl_lines.specs.Requests.{ok_words};
+ghost use Rattle.sipl_lines.specs.declared.command.CommandWord.TheVariants as command;
 ghost use Rattle.sipl_lines.specs.ReplyText.{counts_line};
 ghost use Rattle.sipl_lines.specs.Session.{AppendsText, Replies};
 
-use crate::command_word::CommandWord;
+use crate::command::CommandWord;
 use crate::desk::Desk;
 use crate::desk_commands::{MAX_SHORT_REPLY_LEN, read_question, reply_moved};
 use crate::reply::{write_answer, write_done, write_refusal};

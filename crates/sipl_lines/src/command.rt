@@ -1,16 +1,95 @@
-// What a line of a session asks for.
+//! The words of a session's commands, each spelled here and nowhere else, and what a line asks for.
 ghost use Rattle.std.specs.Prelude.{◌≡◌};
 ghost use Rattle.sipl_records.specs.Fields.{fields_of, trim_start};
 ghost use Rattle.sipl_records.specs.Numbers.{number_of};
 ghost use Rattle.sipl_choice.specs.Transports.{transport_named};
-ghost use Rattle.sipl_lines.specs.Requests.{add_request, broke_request, call_request, clock_request, command_request, del_request, deps_request, drop_request, endpoint_of, find_request, got_request, hold_request, kind_named, meaning_if_read, meaning_of, page_request, quit_request, release_request, repair_request, request_of, retry_of, zone_request};
+ghost use Rattle.sipl_lines.specs.Requests.{add_request, broke_request, call_request, clock_request, command_request, del_request, deps_request, drop_request, endpoint_of, fault_words, find_request, got_request, hold_request, is_word, kind_named, meaning_if_read, meaning_of, ok_words, page_request, quit_request, release_request, repair_request, request_of, retry_of, text_of_word, word_start, zone_request};
 
-use crate::command_word::CommandWord;
 use crate::draws_field::read_draws;
 use sipl_choice::{Endpoint, Transport};
 use sipl_records::{Address, AddressFault, next_field, read_number, trim_start};
 use sipl_srv::{Draws, DrawsFault};
 use sipl_tx::Kind;
+
+/// The first word of a command's line.
+#[derive(Clone, Copy, Debug)]
+pub enum CommandWord {
+    Zone,
+    Drop,
+    Add,
+    Del,
+    Find,
+    Deps,
+    Repair,
+    Page,
+    Hold,
+    Release,
+    Clock,
+    Call,
+    Got,
+    Broke,
+    Quit,
+}
+
+// A command's word between two texts, as one literal.
+macro_rules! spelled {
+    ($before:literal, $word:expr, $after:literal) => {
+        match $word {
+            CommandWord::Zone => concat!($before, "zone", $after).as_bytes(),
+            CommandWord::Drop => concat!($before, "drop", $after).as_bytes(),
+            CommandWord::Add => concat!($before, "add", $after).as_bytes(),
+            CommandWord::Del => concat!($before, "del", $after).as_bytes(),
+            CommandWord::Find => concat!($before, "find", $after).as_bytes(),
+            CommandWord::Deps => concat!($before, "deps", $after).as_bytes(),
+            CommandWord::Repair => concat!($before, "repair", $after).as_bytes(),
+            CommandWord::Page => concat!($before, "page", $after).as_bytes(),
+            CommandWord::Hold => concat!($before, "hold", $after).as_bytes(),
+            CommandWord::Release => concat!($before, "release", $after).as_bytes(),
+            CommandWord::Clock => concat!($before, "clock", $after).as_bytes(),
+            CommandWord::Call => concat!($before, "call", $after).as_bytes(),
+            CommandWord::Got => concat!($before, "got", $after).as_bytes(),
+            CommandWord::Broke => concat!($before, "broke", $after).as_bytes(),
+            CommandWord::Quit => concat!($before, "quit", $after).as_bytes(),
+        }
+    };
+}
+
+impl CommandWord {
+    /// The word, in lower case, such as `zone`.
+    pub const fn name(self) -> &'static [u8]
+        ensures { result.now ≡ text_of_word self }
+    {
+        spelled!("", self, "")
+    }
+
+    /// The word and a space: how the line of a command with fields begins.
+    pub const fn start(self) -> &'static [u8]
+        ensures { result.now ≡ word_start self }
+    {
+        spelled!("", self, " ")
+    }
+
+    /// The words of the reply to such a command that is accepted.
+    pub const fn ok_words(self) -> &'static [u8]
+        ensures { result.now ≡ ok_words self }
+    {
+        spelled!("ok ", self, "")
+    }
+
+    // The words of the reply that says where a fault is in what such a command takes.
+    pub(crate) const fn fault_words(self) -> &'static [u8]
+        ensures { result.now ≡ fault_words self }
+    {
+        spelled!("err ", self, "")
+    }
+
+    /// Whether this is the word.
+    pub fn is(self, word: &[u8]) -> bool
+        ensures { result ≡ is_word self word.now }
+    {
+        word == self.name()
+    }
+}
 
 /// The maximum length of a line in octets. A longer one is refused as K2.
 pub const MAX_LINE_LEN: usize = 65_536;

@@ -5,12 +5,12 @@ ghost use Rattle.sipl_masterfile.specs.Zones.{zone_of};
 ghost use Rattle.sipl_names.specs.NameFault.{IfInvalid};
 ghost use Rattle.sipl_names.specs.NameText.{name_of};
 ghost use Rattle.sipl_uri.specs.Uris.{has_scheme_and_octets, question_of};
-ghost use Rattle.sipl_lines.specs.CommandWords.{ok_words};
+ghost use Rattle.sipl_lines.specs.Requests.{ok_words};
 ghost use Rattle.sipl_lines.specs.Commands.{AnswersUri, ChangesHold, Edits, EditsRecord, ListsUri, Loads, Repairs, TurnsPage, Unloads, handed_text, result_text};
 ghost use Rattle.sipl_lines.specs.ReplyText.{HasTargets, counts_line, evidence_text, refusal_line};
 ghost use Rattle.sipl_lines.specs.Session.{AppendsText, Replies};
 
-use crate::command_word::CommandWord;
+use crate::command::CommandWord;
 use crate::desk::{Desk, MAX_REFUSAL_LEN};
 use crate::gather::ZoneLines;
 use crate::reply::{

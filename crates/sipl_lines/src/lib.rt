@@ -6,7 +6,6 @@ mod book;
 mod calls;
 mod check;
 mod command;
-mod command_word;
 mod conversation;
 mod desk;
 mod desk_commands;
@@ -30,8 +29,7 @@ mod tapped;
 
 pub use book::{serve_book, serve_book_within};
 pub use check::check_zone;
-pub use command::{MAX_LINE_LEN, MAX_ZONE_LINES};
-pub use command_word::CommandWord;
+pub use command::{CommandWord, MAX_LINE_LEN, MAX_ZONE_LINES};
 pub use desk::{Desk, MAX_REFUSAL_LEN};
 pub use lines::OutOfMemory;
 pub use script::{play_script, play_script_within};

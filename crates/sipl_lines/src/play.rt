@@ -6,8 +6,7 @@ ghost use Rattle.sipl_lines.specs.ScriptLines.{script_request_of};
 ghost use Rattle.sipl_lines.specs.ScriptMeaning.{meaning_of_line};
 ghost use Rattle.sipl_lines.specs.Session.{AppendsText};
 
-use crate::command::Command;
-use crate::command_word::CommandWord;
+use crate::command::{Command, CommandWord};
 use crate::gather::{Gathered, Gathering};
 use crate::reply::{write_refusal, write_text_fault};
 use crate::script_line::{ScriptLine, read_script_line};

@@ -1,13 +1,13 @@
 // How replies are written.
 ghost use Rattle.std.specs.Prelude.{◌≡◌, ◌+◌, ◌*◌, ◌≤◌, [], ◌∷◌, ◌++◌, length, take, IsOk, OnOk, OnErr, vec_len, vec_capacity};
-ghost use Rattle.sipl_lines.specs.CommandWords.{ok_words};
-ghost use Rattle.sipl_lines.specs.declared.command_word.CommandWord.TheVariants as command;
+ghost use Rattle.sipl_lines.specs.Requests.{ok_words};
+ghost use Rattle.sipl_lines.specs.declared.command.CommandWord.TheVariants as command;
 ghost use Rattle.sipl_lines.specs.Commands.{page_text};
 ghost use Rattle.sipl_lines.specs.ReplyText.{answer_text, evidence_line, evidence_text, max_answer_len, counts_line, refusal_line, text_fault_line, number_field, target_line, target_lines, word_field};
 ghost use Rattle.sipl_names.specs.NamePrint.{text_of};
 ghost use Rattle.sipl_records.specs.Kinds.{text_of_kind};
 
-use crate::command_word::CommandWord;
+use crate::command::CommandWord;
 use itoa::Buffer;
 use sipl_book::Extent;
 use sipl_choice::Endpoint;

@@ -5,7 +5,7 @@ ghost use Rattle.sipl_lines.specs.ReplyText.{word_field};
 ghost use Rattle.sipl_lines.specs.ScriptText.{Shows, changed_text, lease_text, moved_text, port_field, read_text, scheme_text, shown_of, stale_text, target_text, transport_field, uncommitted_text};
 ghost use Rattle.sipl_lines.specs.Session.{AppendsText};
 
-use crate::command_word::CommandWord;
+use crate::command::CommandWord;
 use crate::desk_commands::reply_handed;
 use crate::reply::{
     write_counts, write_done, write_key, write_name, write_number, write_page, write_refusal,

@@ -6,8 +6,7 @@ ghost use Rattle.sipl_lines.specs.Requests.{meaning_of};
 ghost use Rattle.sipl_lines.specs.Session.{AppendsText, GathersOrLoses, LoadsGathered, MayFail, Obeys, Performs, Replies, at_desk, session_protocol};
 
 use crate::calls::{hear_failure, hear_response, open_call, set_clock};
-use crate::command::{Command, read_command};
-use crate::command_word::CommandWord;
+use crate::command::{Command, CommandWord, read_command};
 use crate::desk::Desk;
 use crate::desk_commands::{
     HoldChange, MAX_SHORT_REPLY_LEN, RecordEdit, change_hold, edit_record, find, list_evidence,

@@ -1,6 +1,6 @@
 use Rattle.std.proofs.Common.{◌++◌, sym, ap, ◌∙◌}
 use Rattle.sipl_lines.specs.Calls.{hold_in, steps_text}
-use Rattle.sipl_lines.specs.CommandWords.{ok_words}
+use Rattle.sipl_lines.specs.Requests.{ok_words}
 use Rattle.sipl_lines.specs.ReplyText.{counts_line}
 use Rattle.sipl_lines.proofs.Calling.{reported, reported_hold}
 use Rattle.sipl_lines.proofs.calls.report.Goals as goal
