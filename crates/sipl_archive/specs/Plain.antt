@@ -17,7 +17,7 @@ use Rattle.sipl_book.specs.Machine.{zone_edit}
 use Rattle.sipl_book.specs.declared.edit.Edit.{Edit}
 use Rattle.sipl_book.specs.declared.fault.BookFault.{BookFault}
 use Rattle.sipl_book.specs.declared.fault.BookFault.TheVariants.{Store as StoreFault, Board as BoardFault, Memory}
-use Rattle.sipl_lines.specs.Desk.{DeskRules}
+use Rattle.sipl_lines.specs.Desk.{DeskRules, EventRules, only_events}
 
 -- the zones and the holds, the client's abilities, and the policy on held endpoints
 pub record PlainState : Type 0 where
@@ -71,9 +71,9 @@ pub record MakesMove {A : Type 0} (event : BoardEvent) (old new : PlainState) (o
   pub board : MovesBoard event old.board new.board outcome
   pub others : new ≡ record old { board = new.board }
 
--- What the calls do. No page of an archive asks for record sets, a repair or a page.
-abbrev pub plain_rules : DeskRules PlainState BookFault
-plain_rules =
+-- what the calls do
+abbrev pub plain_events : EventRules PlainState BookFault
+plain_events =
     record {
       Finds = λ question words old outcome new. (new ≡ record old { store = looked old.store })
           × IfOk outcome (λ handed. handed.answer
@@ -81,11 +81,11 @@ plain_rules =
           × IfErr outcome (λ fault. fault ≡ Memory);
       Changes = λ edit old outcome new. MakesEdit edit old new outcome;
       Moves = λ event old outcome new. MakesMove event old new outcome;
-      Depends = λ question old outcome new. new ≡ old;
-      Repairs = λ old outcome new. new ≡ old;
-      Pages = λ old outcome new. new ≡ old;
       Pauses = λ old new. new ≡ old;
       IsTime = λ plain now. now ≡ plain.board.holds.now;
-      zone_octets = λ plain. None;
       fault_text = code_of;
     }
+
+-- what it does for a session: no page of an archive asks for record sets, a repair or a page
+abbrev pub plain_rules : DeskRules PlainState BookFault
+plain_rules = only_events plain_events

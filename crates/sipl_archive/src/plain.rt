@@ -6,10 +6,9 @@ ghost use Rattle.sipl_outages.specs.Holds.BoardEvent.{Hold, Release, Advance};
 ghost use Rattle.sipl_zonestore.specs.Looks.{looked};
 ghost use Rattle.sipl_archive.specs.Plain.{MakesEdit, MovesBoard, new_plain};
 
-use sipl_book::{Book, BookFault, Done, Edit, Extent, Handed};
+use sipl_book::{Book, BookFault, Done, Edit, Handed};
 use sipl_choice::{Abilities, Endpoint};
-use sipl_evidence::Evidence;
-use sipl_lines::Desk;
+use sipl_lines::{Desk, EventDesk};
 use sipl_outages::{Board, Held};
 use sipl_plans::{Answer, plan_of};
 use sipl_srv::Draws;
@@ -72,12 +71,12 @@ impl Model for Plain {
     } };
 }
 
-impl Desk for Plain {
-    ghost use Rattle.sipl_archive.specs.Plain.{plain_rules};
+impl EventDesk for Plain {
+    ghost use Rattle.sipl_archive.specs.Plain.{plain_events};
 
     type Fault = BookFault;
 
-    ghost rules = { plain_rules };
+    ghost rules = { plain_events };
 
     fn find(
         &mut self,
@@ -124,24 +123,11 @@ impl Desk for Plain {
         self.board.now()
     }
 
-    fn zone_octets(&self) -> Option<u64> {
-        None
-    }
-
-    // No page has such a line.
-    fn deps(&mut self, _alloc: Global, _question: Question) -> Result<Evidence, BookFault> {
-        Err(BookFault::NotCurrent)
-    }
-
-    fn repair(&mut self, _alloc: Global) -> Result<(), BookFault> {
-        Err(BookFault::NotCurrent)
-    }
-
-    fn page(&mut self) -> Result<Extent, BookFault> {
-        Err(BookFault::PagesSpent)
-    }
-
     fn pause(&mut self) {}
+
+    fn no_event() -> BookFault {
+        BookFault::NotCurrent
+    }
 
     fn write_fault(fault: BookFault, out: &mut Vec<u8>) {
         <Book as Desk>::write_fault(fault, out);

@@ -15,7 +15,7 @@ use crate::items::{event_of, is_change, is_find, replies_to, split_line};
 use crate::plain::Plain;
 use memchr::memmem;
 use sha2::{Digest, Sha256};
-use sipl_lines::{Settings, SettingsFault};
+use sipl_lines::{OnlyEvents, Settings, SettingsFault};
 use sipl_records::{next_field, read_number};
 use std::alloc::{AllocError, AllocFailed, Global};
 use std::rt::Files;
@@ -121,7 +121,7 @@ struct Run {
     number: u64,
     next: u64,
     client: Vec<u8>,
-    desk: Plain,
+    desk: OnlyEvents<Plain>,
 }
 
 /// Replays the pages in a folder, of all runs in their order. Returns the runs, and how many events each has.
@@ -315,7 +315,11 @@ impl Run {
 
 // Replays the events of a page. The fault has the number of the first that is not accepted, or whose answer
 // is another one.
-fn repeat_events(alloc: Global, desk: &mut Plain, head: &Head<'_>) -> Result<(), PageFault>
+fn repeat_events(
+    alloc: Global,
+    desk: &mut OnlyEvents<Plain>,
+    head: &Head<'_>,
+) -> Result<(), PageFault>
     ensures { OnOk result (RepeatsSome head.now.events.now [] head.now.count desk.old desk.new) }
 {
     let mut rest = head.events;
@@ -336,7 +340,7 @@ fn repeat_events(alloc: Global, desk: &mut Plain, head: &Head<'_>) -> Result<(),
 // its answer is another one.
 fn replay_event<'a>(
     alloc: Global,
-    desk: &mut Plain,
+    desk: &mut OnlyEvents<Plain>,
     text: &'a [u8],
 ) -> Result<Option<&'a [u8]>, PageFault>
     ensures { IfOk result (λ rest. IfSome rest
@@ -386,7 +390,7 @@ fn new_run(alloc: Global, number: u64, client: &[u8]) -> Result<Run, PageFault>
 }
 
 // A machine without records for the client and the policy of these settings.
-fn desk_of(alloc: Global, text: &str) -> Result<Plain, PageFault>
+fn desk_of(alloc: Global, text: &str) -> Result<OnlyEvents<Plain>, PageFault>
     ensures { IfOk result (λ desk. IsFresh text.now desk) }
 {
     match Settings::from_toml(alloc, text) {
@@ -396,7 +400,7 @@ fn desk_of(alloc: Global, text: &str) -> Result<Plain, PageFault>
                 held,
                 ..
             },
-        ) => Ok(Plain::new(alloc, abilities, held)),
+        ) => Ok(OnlyEvents::new(Plain::new(alloc, abilities, held))),
         Err(SettingsFault::Memory) => Err(PageFault::Memory),
         Err(_) => Err(PageFault::NotPage),
     }

@@ -2,7 +2,7 @@
 use crate::daemon::Daemon;
 use crate::fault::state_fault;
 use crate::journal::claims::Claims;
-use crate::session::restoring::RestoringDesk;
+use crate::session::desk::SessionDesk;
 use sipl_listen::Stop;
 use sipl_log::Log;
 use sipl_process::{Fault, Host, expect_state};
@@ -69,7 +69,7 @@ fn check_at<H: Host>(
 ) -> Result<FoundFiles, StateFault> {
     let path = real_path(host, alloc, path)?;
     let place = AtomicU64::new(0);
-    let mut desk = RestoringDesk::new(host, daemon, &place, claims);
+    let mut desk = SessionDesk::restoring(host, daemon, &place, claims);
     let found = check_state(host, alloc, path.as_str(), &mut desk);
     desk.end();
     match found {

@@ -4,7 +4,7 @@ use crate::daemon::Daemon;
 use crate::fault::state_fault;
 use crate::journal::claims::Claims;
 use crate::server::run_threads;
-use crate::session::restoring::RestoringDesk;
+use crate::session::desk::SessionDesk;
 use sipl_listen::{Stop, take_lock, take_lock_there};
 use sipl_log::{Level, Log};
 use sipl_process::{
@@ -265,7 +265,7 @@ fn restore_at<H: Host>(
     goes_on: bool,
 ) -> Result<Restored, StateFault> {
     let place = AtomicU64::new(0);
-    let mut desk = RestoringDesk::new(host, daemon, &place, claims);
+    let mut desk = SessionDesk::restoring(host, daemon, &place, claims);
     let restored = restore(host, alloc, path, lock, goes_on, &mut desk);
     desk.end();
     restored

@@ -1,7 +1,6 @@
 //! A client's session.
 pub(crate) mod desk;
 mod output;
-pub(crate) mod restoring;
 
 use crate::daemon::Daemon;
 use crate::session::desk::SessionDesk;
@@ -9,12 +8,14 @@ use crate::session::output::{Output, set_patience};
 use sipl_input::{Asking, Course, Input};
 use sipl_lines::{Tapped, serve};
 use sipl_listen::{Client, Stream};
+use std::fs::File;
+use std::rt::Files;
 use std::sync::Wait;
 use std::time::Clock;
 
 /// Serves the session of a client, which may only ask or not, hands its receipts over, and frees its place. A
 /// fault ends only this session.
-pub(crate) fn serve_client<R: Wait + Clock>(
+pub(crate) fn serve_client<R: Files<File = File> + Wait + Clock>(
     rt: &R,
     daemon: &Daemon,
     client: Client,
@@ -35,7 +36,7 @@ pub(crate) fn serve_client<R: Wait + Clock>(
 }
 
 // Runs a session on a stream, at its desk.
-fn run_session<R: Wait + Clock>(
+fn run_session<R: Files<File = File> + Wait + Clock>(
     rt: &R,
     daemon: &Daemon,
     stream: &Stream,

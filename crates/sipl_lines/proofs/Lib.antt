@@ -11,7 +11,6 @@ pub mod Listening
 pub mod Rows
 pub mod DeskCalls
 pub mod Seen
-pub mod Plain
 pub mod OneReply
 pub mod OneText
 pub mod Calling

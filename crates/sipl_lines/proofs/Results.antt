@@ -15,3 +15,13 @@ at_success (Err e) P fine fact = cc
 pub on_err_both : {T E P Q R : Type 0} (r : Result T E) → (P → Q → R) → OnErr r P → OnErr r Q → OnErr r R
 on_err_both (Ok x) both first second = tt
 on_err_both (Err e) both first second = both first second
+
+-- a fact of a success gives another
+pub on_ok : {T X P Q : Type 0} (r : Result T X) → (P → Q) → OnOk r P → OnOk r Q
+on_ok (Ok value) weaker fact = weaker fact
+on_ok (Err e) weaker fact = tt
+
+-- a fact of an error gives another
+pub on_err : {T X P Q : Type 0} (r : Result T X) → (P → Q) → OnErr r P → OnErr r Q
+on_err (Ok value) weaker fact = tt
+on_err (Err e) weaker fact = weaker fact

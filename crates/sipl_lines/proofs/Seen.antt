@@ -36,6 +36,7 @@ use Rattle.sipl_lines.specs.Session.{SessionState, with_gathering, AtCall, AtDes
 use Rattle.sipl_lines.specs.Streams.{ServesAll, ServesPrefix, ServesRead}
 use Rattle.sipl_lines.specs.Takes.{Takes, TakesFirst}
 use Rattle.sipl_lines.proofs.DeskCalls.{Carries, Implies, asks_seen, keeps}
+use Rattle.sipl_lines.proofs.Results.{on_err, on_ok}
 
 -- the session's state with its desk as it is seen; all else is the same
 abbrev pub session_seen : {D E : Type 0} → (D → E) → SessionState D → SessionState E
@@ -63,14 +64,6 @@ on_true false weaker fact = tt
 on_false : {P Q : Type 0} (b : Bool) → (P → Q) → OnFalse b P → OnFalse b Q
 on_false true weaker fact = tt
 on_false false weaker fact = weaker fact
-
-pub on_ok : {T X P Q : Type 0} (r : Result T X) → (P → Q) → OnOk r P → OnOk r Q
-on_ok (Ok value) weaker fact = weaker fact
-on_ok (Err e) weaker fact = tt
-
-pub on_err : {T X P Q : Type 0} (r : Result T X) → (P → Q) → OnErr r P → OnErr r Q
-on_err (Ok value) weaker fact = tt
-on_err (Err e) weaker fact = weaker fact
 
 on_read_fault : {T P Q : Type 0} (r : Result T ServeFault) → (P → Q) → OnReadFault r P → OnReadFault r Q
 on_read_fault (Ok value) weaker fact = tt

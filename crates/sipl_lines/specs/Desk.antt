@@ -1,5 +1,5 @@
 -- What a desk does for a session, and the desk of a book.
-use Rattle.std.specs.Prelude.{◌≡◌, ℕ, List, Option, None, Result}
+use Rattle.std.specs.Prelude.{◌≡◌, ℕ, List, Option, None, Result, Err}
 use Rattle.std.specs.Result.{result_map_both}
 use Rattle.sipl_names.specs.Labels.{Octets}
 use Rattle.sipl_evidence.specs.Items.{Item}
@@ -31,6 +31,35 @@ pub record DeskRules (D F : Type 0) : Type 1 where
   pub IsTime : D → ℕ → Type 0
   pub zone_octets : D → Option ℕ
   pub fault_text : F → Octets
+
+-- the same of a desk whose calls are the events of a journal
+pub record EventRules (D F : Type 0) : Type 1 where
+  pub Finds : Question → List ℕ → D → Result Handed F → D → Type 0
+  pub Changes : Edit → D → Result Done F → D → Type 0
+  pub Moves : BoardEvent → D → Result ℕ F → D → Type 0
+  pub Pauses : D → D → Type 0
+  pub IsTime : D → ℕ → Type 0
+  pub fault_text : F → Octets
+
+-- a call is refused, and changes nothing
+abbrev pub IsRefused : {D F A : Type 0} → D → Result A F → D → Type 0
+IsRefused {D} {F} {A} old outcome new = ((fault : F) × (outcome ≡ Err fault)) × (new ≡ old)
+
+-- what the calls of such a desk do: those that are no events are refused, and a zone has no limit
+abbrev pub only_events : {D F : Type 0} → EventRules D F → DeskRules D F
+only_events rules =
+    record {
+      Finds = rules.Finds;
+      Changes = rules.Changes;
+      Moves = rules.Moves;
+      Depends = λ question old outcome new. IsRefused old outcome new;
+      Repairs = λ old outcome new. IsRefused old outcome new;
+      Pages = λ old outcome new. IsRefused old outcome new;
+      Pauses = rules.Pauses;
+      IsTime = rules.IsTime;
+      zone_octets = λ desk. None;
+      fault_text = rules.fault_text;
+    }
 
 -- what the calls of a book's desk do: those of the book. Of a page it returns the extent only, and a
 -- pause does nothing

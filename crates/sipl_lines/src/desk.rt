@@ -1,7 +1,7 @@
 //! What a session's commands act on.
 ghost use Rattle.std.specs.Prelude.{◌≡◌, ◌+◌, ◌++◌, ◌≤◌, ◌^◌, OnOk, vec_len, vec_capacity};
 ghost use Rattle.sipl_outages.specs.Holds.BoardEvent.{Hold, Release, Advance};
-ghost use Rattle.sipl_lines.specs.Desk.{DeskRules};
+ghost use Rattle.sipl_lines.specs.Desk.{DeskRules, EventRules};
 ghost use Rattle.sipl_lines.specs.ReplyText.{refusal_line};
 
 use crate::reply::write_refusal;
@@ -11,6 +11,7 @@ use sipl_evidence::Evidence;
 use sipl_srv::Draws;
 use sipl_uri::Question;
 use std::alloc::Global;
+use std::marker::Model;
 
 /// The maximum length in octets of the reply to a refused command: the longest has a code, a name of
 /// at most 1,004 octets, and a kind.
@@ -82,6 +83,148 @@ pub trait Desk {
         requires space { vec_len out.old + MAX_REFUSAL_LEN ≤ vec_capacity out.old }
         ensures text { out.new.items ≡ out.old.items ++ refusal_line (rules.fault_text fault) }
         ensures capacity { vec_capacity out.old ≤ vec_capacity out.new };
+}
+
+/// A desk of few calls: those that are events of a journal, an answer, an edit, and what moves the holds
+/// or the clock.
+pub trait EventDesk {
+    /// Why a call is refused.
+    type Fault;
+
+    ghost rules: { EventRules Self Self.Fault };
+
+    /// As [`Desk::find`].
+    fn find(
+        &mut self,
+        alloc: Global,
+        question: Question,
+        draws: &Draws,
+    ) -> Result<Handed, Self::Fault>
+        ensures { rules.Finds question draws.now self.old result self.new };
+
+    /// As [`Desk::change`].
+    fn change(&mut self, edit: Edit) -> Result<Done, Self::Fault>
+        ensures { rules.Changes edit self.old result self.new };
+
+    /// As [`Desk::hold`].
+    fn hold(&mut self, endpoint: &Endpoint, ms: u64) -> Result<u64, Self::Fault>
+        ensures { rules.Moves (Hold endpoint.now ms) self.old result self.new };
+
+    /// As [`Desk::release`].
+    fn release(&mut self, endpoint: &Endpoint) -> Result<u64, Self::Fault>
+        ensures { rules.Moves (Release endpoint.now) self.old result self.new };
+
+    /// As [`Desk::advance`].
+    fn advance(&mut self, to: u64) -> Result<u64, Self::Fault>
+        ensures moved { rules.Moves (Advance to) self.old result self.new }
+        ensures limit { OnOk result (to ≤ 2 ^ 52) };
+
+    /// As [`Desk::now`].
+    fn now(&self) -> u64
+        ensures time { rules.IsTime self.now result }
+        ensures limit { result ≤ 2 ^ 52 };
+
+    /// As [`Desk::pause`].
+    fn pause(&mut self)
+        ensures { rules.Pauses self.old self.new };
+
+    /// Why a call is refused that is no event.
+    fn no_event() -> Self::Fault;
+
+    /// As [`Desk::write_fault`].
+    fn write_fault(fault: Self::Fault, out: &mut Vec<u8>)
+        requires space { vec_len out.old + MAX_REFUSAL_LEN ≤ vec_capacity out.old }
+        ensures text { out.new.items ≡ out.old.items ++ refusal_line (rules.fault_text fault) }
+        ensures capacity { vec_capacity out.old ≤ vec_capacity out.new };
+}
+
+/// A desk of few calls as a desk: all others are refused, and change nothing.
+#[derive(Drop)]
+pub struct OnlyEvents<D> {
+    desk: D,
+}
+
+impl<D> Model for OnlyEvents<D> {
+    ghost Value = { D };
+
+    ghost view = { λ only. only.desk };
+}
+
+impl<D> OnlyEvents<D> {
+    /// This desk, as it is.
+    pub fn new(desk: D) -> Self
+        ensures { result ≡ desk }
+    {
+        OnlyEvents { desk }
+    }
+
+    /// The desk of few calls.
+    pub fn into_inner(self) -> D
+        ensures { result ≡ self }
+    {
+        self.desk
+    }
+}
+
+impl<D: EventDesk> Desk for OnlyEvents<D> {
+    ghost use Rattle.sipl_lines.specs.Desk.{only_events};
+
+    type Fault = D::Fault;
+
+    ghost rules = { only_events D.rules };
+
+    fn find(
+        &mut self,
+        alloc: Global,
+        question: Question,
+        draws: &Draws,
+    ) -> Result<Handed, D::Fault> {
+        self.desk.find(alloc, question, draws)
+    }
+
+    fn change(&mut self, edit: Edit) -> Result<Done, D::Fault> {
+        self.desk.change(edit)
+    }
+
+    fn hold(&mut self, endpoint: &Endpoint, ms: u64) -> Result<u64, D::Fault> {
+        self.desk.hold(endpoint, ms)
+    }
+
+    fn release(&mut self, endpoint: &Endpoint) -> Result<u64, D::Fault> {
+        self.desk.release(endpoint)
+    }
+
+    fn advance(&mut self, to: u64) -> Result<u64, D::Fault> {
+        self.desk.advance(to)
+    }
+
+    fn now(&self) -> u64 {
+        self.desk.now()
+    }
+
+    fn zone_octets(&self) -> Option<u64> {
+        None
+    }
+
+    fn deps(&mut self, _alloc: Global, _question: Question) -> Result<Evidence, D::Fault> {
+        Err(D::no_event())
+    }
+
+    fn repair(&mut self, _alloc: Global) -> Result<(), D::Fault> {
+        Err(D::no_event())
+    }
+
+    fn page(&mut self) -> Result<Extent, D::Fault> {
+        Err(D::no_event())
+    }
+
+    fn pause(&mut self) {
+        self.desk.pause();
+    }
+
+    fn write_fault(fault: D::Fault, out: &mut Vec<u8>) {
+        D::write_fault(fault, out)
+    }
 }
 
 /// A book as a desk: the calls are those of the book, which has its own allocator. Its pages are

@@ -30,7 +30,7 @@ mod tapped;
 pub use book::{serve_book, serve_book_within};
 pub use check::check_zone;
 pub use command::{CommandWord, MAX_LINE_LEN, MAX_ZONE_LINES};
-pub use desk::{Desk, MAX_REFUSAL_LEN};
+pub use desk::{Desk, EventDesk, MAX_REFUSAL_LEN, OnlyEvents};
 pub use lines::OutOfMemory;
 pub use script::{play_script, play_script_within};
 pub use server::{Ended, MAX_READS, ServeFault, serve, serve_within};

@@ -1,17 +1,16 @@
 // When `serve` gives a desk a pause.
 use super::assertions::expects_equal;
 use super::streams::{Pieces, push_times};
-use sipl_book::{Book, BookFault, Done, Edit, Extent, Handed};
+use sipl_book::{Book, BookFault, Done, Edit, Handed};
 use sipl_choice::Endpoint;
-use sipl_evidence::Evidence;
-use sipl_lines::{Desk, Tapped, serve};
+use sipl_lines::{Desk, EventDesk, OnlyEvents, Tapped, serve};
 use sipl_srv::Draws;
 use sipl_uri::Question;
 use std::alloc::{AllocError, Global};
 use std::process::Abort;
 use std::test::Fail;
 
-// A desk that refuses all but `repair`, and counts its calls and its pauses.
+// A desk that refuses all but edits, and counts these and its pauses.
 #[derive(Drop)]
 struct CountingDesk {
     calls: u64,
@@ -29,8 +28,7 @@ impl CountingDesk {
     }
 }
 
-impl Desk for CountingDesk {
-    ghost use Rattle.std.specs.Prelude.{None};
+impl EventDesk for CountingDesk {
     ghost use Rattle.sipl_book.specs.BookFault.{code_of};
 
     type Fault = BookFault;
@@ -39,12 +37,8 @@ impl Desk for CountingDesk {
       Finds = λ question words old outcome new. Unit {0};
       Changes = λ edit old outcome new. Unit {0};
       Moves = λ event old outcome new. Unit {0};
-      Depends = λ question old outcome new. Unit {0};
-      Repairs = λ old outcome new. Unit {0};
-      Pages = λ old outcome new. Unit {0};
       Pauses = λ old new. Unit {0};
       IsTime = λ desk now. Unit {0};
-      zone_octets = λ desk. None;
       fault_text = code_of;
     } };
 
@@ -58,7 +52,12 @@ impl Desk for CountingDesk {
     }
 
     fn change(&mut self, _edit: Edit) -> Result<Done, BookFault> {
-        Err(BookFault::JournalFull)
+        self.calls = self.calls.saturating_add(1);
+        self.most_calls = self.most_calls.max(self.calls);
+        Ok(Done {
+            number: self.calls,
+            changed: 0,
+        })
     }
 
     fn hold(&mut self, _endpoint: &Endpoint, _ms: u64) -> Result<u64, BookFault> {
@@ -77,27 +76,13 @@ impl Desk for CountingDesk {
         0
     }
 
-    fn zone_octets(&self) -> Option<u64> {
-        None
-    }
-
-    fn deps(&mut self, _alloc: Global, _question: Question) -> Result<Evidence, BookFault> {
-        Err(BookFault::JournalFull)
-    }
-
-    fn repair(&mut self, _alloc: Global) -> Result<(), BookFault> {
-        self.calls = self.calls.saturating_add(1);
-        self.most_calls = self.most_calls.max(self.calls);
-        Ok(())
-    }
-
-    fn page(&mut self) -> Result<Extent, BookFault> {
-        Err(BookFault::JournalFull)
-    }
-
     fn pause(&mut self) {
         self.calls = 0;
         self.pauses = self.pauses.saturating_add(1);
+    }
+
+    fn no_event() -> BookFault {
+        BookFault::JournalFull
     }
 
     fn write_fault(fault: BookFault, out: &mut Vec<u8>) {
@@ -105,18 +90,18 @@ impl Desk for CountingDesk {
     }
 }
 
-// Serves so many `repair` lines, read in pieces of `most` octets. Returns how many pauses there were,
+// Serves so many `drop` lines, read in pieces of `most` octets. Returns how many pauses there were,
 // and the maximum number of calls between two.
 fn pauses_of(alloc: Global, lines: usize, most: usize) -> Result<(u64, u64), Fail> {
-    let text = repairs(alloc, lines)?;
+    let text = drops(alloc, lines)?;
     let pauses = pauses_over(alloc, Pieces::new(&text, most, 0));
     drop(text);
     pauses
 }
 
-fn repairs(alloc: Global, lines: usize) -> Result<Vec<u8>, AllocError> {
+fn drops(alloc: Global, lines: usize) -> Result<Vec<u8>, AllocError> {
     let mut text = Vec::new(alloc);
-    match push_times(&mut text, b"repair\n", lines) {
+    match push_times(&mut text, b"drop a\n", lines) {
         Ok(()) => Ok(text),
         Err(fault) => {
             drop(text);
@@ -127,13 +112,14 @@ fn repairs(alloc: Global, lines: usize) -> Result<Vec<u8>, AllocError> {
 
 // The same for lines that are read so.
 fn pauses_over(alloc: Global, lines: Pieces<'_>) -> Result<(u64, u64), Fail> {
-    let mut desk = CountingDesk::new();
+    let mut desk = OnlyEvents::new(CountingDesk::new());
     let mut reader = Tapped::new(lines);
     let mut writer = Tapped::new(Vec::new(alloc));
     let served = serve(alloc, &mut reader, &mut writer, &mut desk);
     drop(writer);
     drop(reader);
     served?;
+    let desk = desk.into_inner();
     Ok((desk.pauses, desk.most_calls))
 }
 

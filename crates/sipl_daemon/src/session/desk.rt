@@ -4,6 +4,8 @@ ghost use Rattle.sipl_daemon.specs.declared.fault.DeskFault.TheVariants.{AsksOnl
 
 use crate::daemon::Daemon;
 use crate::fault::DeskFault;
+use crate::journal::claimer::claim_turned;
+use crate::journal::claims::Claims;
 use crate::journal::pages::{answer_octets, board_octets, edit_octets};
 use sipl_book::{Done, Edit, Extent, Handed};
 use sipl_choice::Endpoint;
@@ -13,28 +15,31 @@ use sipl_service::Pass;
 use sipl_srv::Draws;
 use sipl_uri::Question;
 use std::alloc::Global;
+use std::fs::File;
 use std::marker::Model;
+use std::rt::Files;
 use std::sync::Wait;
 use std::sync::atomic::{AtomicU64, Ordering};
 use std::time::Clock;
 
 /// The daemon's service, as the desk of one session with a pass of its own.
 #[derive(Drop)]
-pub(crate) struct SessionDesk<'a, R: Wait + Clock> {
+pub(crate) struct SessionDesk<'a, R: Files<File = File> + Wait + Clock> {
     rt: &'a R,
     daemon: &'a Daemon,
     pass: Pass,
     // Where the last change of the session ends in the file of changes.
     place: &'a AtomicU64,
-    // Whether the lines are those of a state, which set the time and have no limit.
-    is_restoring: bool,
+    // Where the lines are those of a state, which set the time and have no limit, what claims the pages
+    // that they turn: else these would wait in memory until clients are served.
+    claims: Option<&'a mut Claims>,
     // Whether the session may only ask.
     asks_only: bool,
 }
 
-impl<'a, R: Wait + Clock> Model for SessionDesk<'a, R> {
+impl<'a, R: Files<File = File> + Wait + Clock> Model for SessionDesk<'a, R> {
     ghost use Rattle.sipl_daemon.specs.SessionDesk.{SessionState};
-    ghost use Rattle.std.specs.Prelude.{[], None, Some, if◌then◌else◌};
+    ghost use Rattle.std.specs.Prelude.{[], None, Some, is_some, if◌then◌else◌};
 
     ghost Value = { SessionState };
 
@@ -46,11 +51,11 @@ impl<'a, R: Wait + Clock> Model for SessionDesk<'a, R> {
         pages = [];
       };
       asks_only = desk.asks_only;
-      zone_octets = if desk.is_restoring then None else Some desk.daemon.now.zone_octets;
+      zone_octets = if is_some desk.claims then None else Some desk.daemon.now.zone_octets;
     } };
 }
 
-impl<'a, R: Wait + Clock> SessionDesk<'a, R> {
+impl<'a, R: Files<File = File> + Wait + Clock> SessionDesk<'a, R> {
     /// The desk of a session that has had no line, and may only ask or not. `place` is where its last change
     /// ends in the file of changes.
     pub(crate) fn new(
@@ -64,19 +69,25 @@ impl<'a, R: Wait + Clock> SessionDesk<'a, R> {
             daemon,
             pass: daemon.source.service.pass(),
             place,
-            is_restoring: false,
+            claims: None,
             asks_only,
         }
     }
 
-    /// The same for the lines of a state, which set the time and have no limit.
-    pub(crate) fn restoring(rt: &'a R, daemon: &'a Daemon, place: &'a AtomicU64) -> Self {
+    /// The same for the lines of a state, which set the time and have no limit. At each pause the pages are
+    /// claimed that were turned.
+    pub(crate) fn restoring(
+        rt: &'a R,
+        daemon: &'a Daemon,
+        place: &'a AtomicU64,
+        claims: &'a mut Claims,
+    ) -> Self {
         SessionDesk {
             rt,
             daemon,
             pass: daemon.source.service.pass(),
             place,
-            is_restoring: true,
+            claims: Some(claims),
             asks_only: false,
         }
     }
@@ -113,7 +124,7 @@ impl<'a, R: Wait + Clock> SessionDesk<'a, R> {
 
     // Moves the book's time to that of the host, if it is the host's.
     fn set_clock(&self) {
-        if !self.is_restoring {
+        if self.claims.is_none() {
             self.daemon.set_clock(self.rt);
         }
     }
@@ -127,7 +138,7 @@ impl<'a, R: Wait + Clock> SessionDesk<'a, R> {
     }
 }
 
-impl<'a, R: Wait + Clock> Desk for SessionDesk<'a, R> {
+impl<'a, R: Files<File = File> + Wait + Clock> Desk for SessionDesk<'a, R> {
     ghost use Rattle.sipl_daemon.specs.SessionDesk.{session_rules};
 
     type Fault = DeskFault;
@@ -211,7 +222,7 @@ impl<'a, R: Wait + Clock> Desk for SessionDesk<'a, R> {
     fn advance(&mut self, to: u64) -> Result<u64, DeskFault> {
         self.check_rights()?;
         let (rt, daemon) = (self.rt, self.daemon);
-        if daemon.has_host_time() && !self.is_restoring {
+        if daemon.has_host_time() && self.claims.is_none() {
             return Err(DeskFault::HostTime);
         }
         self.check_kept()?;
@@ -230,7 +241,7 @@ impl<'a, R: Wait + Clock> Desk for SessionDesk<'a, R> {
     }
 
     fn zone_octets(&self) -> Option<u64> {
-        if self.is_restoring {
+        if self.claims.is_some() {
             None
         } else {
             Some(self.daemon.zone_octets)
@@ -262,8 +273,9 @@ impl<'a, R: Wait + Clock> Desk for SessionDesk<'a, R> {
 
     fn pause(&mut self) {
         let _ = self.daemon.pages.hand_over(self.rt, &mut self.pass);
-        if !self.is_restoring {
-            self.daemon.pages.keep_pace(self.rt);
+        match &mut self.claims {
+            Some(claims) => claim_turned(self.rt, self.daemon, claims),
+            None => self.daemon.pages.keep_pace(self.rt),
         }
     }
 

@@ -1,6 +1,6 @@
 use Rattle.sipl_lines.specs.Desk.{book_rules}
 use Rattle.sipl_lines.specs.PlainDesk.{plain_of, plain_rules}
-use Rattle.sipl_lines.proofs.Plain.{book_implies_plain}
+use Rattle.sipl_lines.proofs.DeskCalls.{book_implies_plain}
 use Rattle.sipl_lines.proofs.Seen.{serves_desk}
 use Rattle.sipl_lines.proofs.book.serve_book_within.Goals as goal
 
