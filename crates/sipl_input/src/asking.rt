@@ -20,19 +20,6 @@ const CHUNK: usize = 16_384;
 // The most reads in which no line ends that the session is to have.
 const MAX_READS: u32 = 1 << 31;
 
-// The words of the commands that do more than to ask.
-const REFUSED_WORDS: [CommandWord; 9] = [
-    CommandWord::Zone,
-    CommandWord::Drop,
-    CommandWord::Add,
-    CommandWord::Del,
-    CommandWord::Hold,
-    CommandWord::Release,
-    CommandWord::Clock,
-    CommandWord::Repair,
-    CommandWord::Page,
-];
-
 // The line that stands for one that is refused: the desk of a session that may only ask refuses it too.
 const REFUSED: CommandWord = CommandWord::Repair;
 
@@ -137,7 +124,7 @@ impl Filter {
 // Whether a line is a command that does more than to ask.
 fn is_refused(line: &[u8]) -> bool {
     match next_field(line) {
-        Some((word, _)) => REFUSED_WORDS.iter().any(|refused| refused.is(word)),
+        Some((word, _)) => CommandWord::needs_rights(word),
         None => false,
     }
 }

@@ -1,5 +1,5 @@
 -- The words of a session's commands and of their replies, and what a line asks for.
-use Rattle.std.specs.Prelude.{ℕ, Bool, false, List, [], ◌∷◌, ◌++◌, Option, None, Some, Result, Ok, Err, codes, nat_eq, nat_lt, length, option_map, unwrap_or, if◌then◌else◌, ◌==◌}
+use Rattle.std.specs.Prelude.{ℕ, Bool, false, ◌||◌, List, [], ◌∷◌, ◌++◌, Option, None, Some, Result, Ok, Err, codes, nat_eq, nat_lt, length, option_map, unwrap_or, if◌then◌else◌, ◌==◌}
 use lib.Pointwise.{pointwise}
 use Rattle.sipl_records.specs.Fields.{fields_of, trim_start, after_field}
 use Rattle.sipl_records.specs.Numbers.{number_of}
@@ -52,6 +52,13 @@ ok_words named = codes "ok " ++ text_of_word named
 -- the words of the reply that says where a fault is in what such a command takes
 abbrev pub fault_words : CommandWord → Octets
 fault_words named = codes "err " ++ text_of_word named
+
+-- whether a word is that of a command that changes zones, holds or the time, repairs, or turns a page
+abbrev pub needs_rights : Octets → Bool
+needs_rights word =
+    is_word command.Zone word || is_word command.Drop word || is_word command.Add word
+    || is_word command.Del word || is_word command.Hold word || is_word command.Release word
+    || is_word command.Clock word || is_word command.Repair word || is_word command.Page word
 
 -- ---- requests
 

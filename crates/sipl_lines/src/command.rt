@@ -3,7 +3,7 @@ ghost use Rattle.std.specs.Prelude.{◌≡◌};
 ghost use Rattle.sipl_records.specs.Fields.{fields_of, trim_start};
 ghost use Rattle.sipl_records.specs.Numbers.{number_of};
 ghost use Rattle.sipl_choice.specs.Transports.{transport_named};
-ghost use Rattle.sipl_lines.specs.Requests.{add_request, broke_request, call_request, clock_request, command_request, del_request, deps_request, drop_request, endpoint_of, fault_words, find_request, got_request, hold_request, is_word, kind_named, meaning_if_read, meaning_of, ok_words, page_request, quit_request, release_request, repair_request, request_of, retry_of, text_of_word, word_start, zone_request};
+ghost use Rattle.sipl_lines.specs.Requests.{add_request, broke_request, call_request, clock_request, command_request, del_request, deps_request, drop_request, endpoint_of, fault_words, find_request, got_request, hold_request, is_word, kind_named, meaning_if_read, meaning_of, needs_rights, ok_words, page_request, quit_request, release_request, repair_request, request_of, retry_of, text_of_word, word_start, zone_request};
 
 use crate::draws_field::read_draws;
 use sipl_choice::{Endpoint, Transport};
@@ -88,6 +88,22 @@ impl CommandWord {
         ensures { result ≡ is_word self word.now }
     {
         word == self.name()
+    }
+
+    /// Whether a word is that of a command that changes zones, holds or the time, repairs, or turns a page:
+    /// a session that may only ask is refused it.
+    pub fn needs_rights(word: &[u8]) -> bool
+        ensures { result ≡ needs_rights word.now }
+    {
+        CommandWord::Zone.is(word)
+            || CommandWord::Drop.is(word)
+            || CommandWord::Add.is(word)
+            || CommandWord::Del.is(word)
+            || CommandWord::Hold.is(word)
+            || CommandWord::Release.is(word)
+            || CommandWord::Clock.is(word)
+            || CommandWord::Repair.is(word)
+            || CommandWord::Page.is(word)
     }
 }
 
