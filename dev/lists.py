@@ -126,7 +126,7 @@ def read() -> dict[str, Any]:
         "reasons": words("sipl_plans/src/answer.rt", r'Reason::\w+ => "(\w+)"'),
         "session": commands("session"), "script": commands("script"), "control": commands("control"),
         "steps": {form.split(" ")[0]: form for it in documents.rows_of("lines")["steps"][1:] for form in forms(it[0])},
-        "changes": command_words("sipl_archive/src/items.rt", r"fn is_edit\((.*?^}.*?)^}"),
+        "changes": command_words("sipl_lines/src/command_lines.rt", r"fn is_edit\((.*?^}.*?)^}"),
         "not_asking": command_words("sipl_lines/src/command.rt", r"fn needs_rights\((.*?)^    }"),
         "settings": {"siploc": shared, "siplocd": sorted({*own, *shared} - {"sessions"})},
         "codes": codes(), "refusals": refusals(),

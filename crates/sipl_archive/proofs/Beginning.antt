@@ -6,7 +6,8 @@ use Rattle.std.proofs.lemmas.Bool.{false≢true}
 use Rattle.std.proofs.lemmas.List.{drop-drop}
 use Rattle.std.proofs.lemmas.List.Elements.{All-append, All-cons, All-nil}
 use Rattle.sipl_names.specs.Labels.{Octets}
-use Rattle.sipl_archive.specs.Commands.{Begins, HasNone, after_command, checkpoint_in, first_line}
+use Rattle.sipl_lines.specs.CommandLines.{after_command, first_line}
+use Rattle.sipl_archive.specs.Commands.{Begins, HasNone, checkpoint_in}
 use Rattle.sipl_archive.proofs.Cutting.{command_cut}
 
 begins_last : (commands : List Octets) (command text between after : Octets)

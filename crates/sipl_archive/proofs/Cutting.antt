@@ -3,7 +3,7 @@ use Rattle.std.proofs.Common.{◌≡◌, ℕ, zero, suc, List, [], ◌∷◌, �
 use Rattle.std.specs.Option.{option_and_then}
 use Rattle.std.proofs.lemmas.List.{append_cancel_right}
 use Rattle.std.proofs.lemmas.Option.{none-some, same_Some, option_and_then_some}
-use Rattle.sipl_archive.specs.Commands.{after_command, after_line, after_lines, first_line, taken_by}
+use Rattle.sipl_lines.specs.CommandLines.{after_command, after_line, after_lines, first_line, taken_by}
 
 -- a text begins with a line, whatever is after it
 record CutsLine (text rest : List ℕ) : Type 0 where

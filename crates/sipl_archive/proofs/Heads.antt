@@ -2,7 +2,7 @@
 use Rattle.std.proofs.Common.{◌≡◌, ℕ, ◌+◌, ◌<◌, List, [], ◌∷◌, ◌++◌, true, false, if◌then◌else◌, ◌==◌, length, get_or, take, drop, codes, unwrap_or, Some, refl, sym, ap, ◌∙◌, take-append-drop, append_assoc, arith}
 use Rattle.std.proofs.lemmas.Bool.{eqb-true}
 use Rattle.std.proofs.lemmas.List.{drop_more}
-use Rattle.sipl_archive.specs.Commands.{after_line, first_line}
+use Rattle.sipl_lines.specs.CommandLines.{after_line, first_line}
 
 -- a text whose first line has an end
 pub first_and_rest : (text rest : List ℕ) → rest ≡ unwrap_or (after_line text) [] → 0 < length rest → text ≡ first_line text ++ 10 ∷ rest

@@ -3,9 +3,7 @@ pub mod Beginning
 pub mod Cutting
 pub mod Following
 pub mod Heads
-pub mod Lines
 pub mod Making
 pub mod Paging
 pub mod Repeating
-pub mod Replying
 pub mod Sorting

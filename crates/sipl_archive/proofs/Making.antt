@@ -3,7 +3,8 @@ use Rattle.std.proofs.Common.{◌≡◌, ℕ, ◌+◌, List, [], ◌∷◌, ◌+
 use Rattle.std.specs.Option.{option_or}
 use Rattle.std.proofs.lemmas.List.{drop-drop}
 use Rattle.sipl_names.specs.Labels.{Octets}
-use Rattle.sipl_archive.specs.Commands.{after_command, checkpoint_in, first_line}
+use Rattle.sipl_lines.specs.CommandLines.{after_command, first_line}
+use Rattle.sipl_archive.specs.Commands.{checkpoint_in}
 use Rattle.sipl_archive.specs.Restoring.{MakesAll, MakesFirst, Remaining, after_made}
 
 makes_last : (commands : List Octets) (last : Octets) (before between after : Remaining)

@@ -8,7 +8,7 @@ use Rattle.sha2.specs.declared.Sha256.{Sha256}
 use Rattle.sipl_names.specs.Labels.{Octets}
 use Rattle.sipl_book.specs.declared.event.Event.{Event}
 use Rattle.sipl_archive.specs.Archive.{WritesPiece, body_text}
-use Rattle.sipl_archive.specs.Text.{event_lines}
+use Rattle.sipl_lines.specs.CommandText.{event_lines}
 
 -- a prefix of a text was written and digested, and this is the rest
 pub record Sends (old new : Option Octets) (digest : Sha256) (rest text : Octets) : Type 0 where

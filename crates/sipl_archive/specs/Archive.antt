@@ -19,7 +19,7 @@ use Rattle.sipl_outages.specs.declared.held.Held.TheVariants.{Out, Last}
 use Rattle.sipl_book.specs.Pages.{PageState}
 use Rattle.sipl_book.specs.declared.event.Event.{Event}
 use Rattle.sipl_lines.specs.ReplyText.{number_field}
-use Rattle.sipl_archive.specs.Text.{event_lines}
+use Rattle.sipl_lines.specs.CommandText.{event_lines}
 
 -- a name in quotes
 abbrev pub quoted : Octets → Octets

@@ -5,7 +5,7 @@ use lib.Pointwise.{pointwise}
 use Rattle.sipl_names.specs.Labels.{Octets}
 use Rattle.sipl_lines.specs.Settings.{settings_of}
 use Rattle.sipl_lines.specs.declared.settings.Settings.{Settings}
-use Rattle.sipl_archive.specs.Commands.{IsCommand, first_line, is_change, is_find}
+use Rattle.sipl_lines.specs.CommandLines.{IsCommand, first_line, is_change, is_find}
 use Rattle.sipl_archive.specs.Plain.{PlainState, new_plain, plain_rules}
 use Rattle.sipl_archive.specs.Replies.{AreReplies}
 

@@ -3,7 +3,8 @@ use Rattle.std.specs.Prelude.{◌≡◌, true, ◌≤◌, ◌&&◌, ◌++◌, Li
 use Rattle.std.specs.List.{starts_with}
 use Rattle.std.specs.Option.{option_or}
 use Rattle.sipl_names.specs.Labels.{Octets}
-use Rattle.sipl_archive.specs.Commands.{after_command, after_reply, checkpoint_in, first_line, is_change}
+use Rattle.sipl_lines.specs.CommandLines.{after_command, after_reply, first_line, is_change}
+use Rattle.sipl_archive.specs.Commands.{checkpoint_in}
 use Rattle.sipl_archive.specs.declared.state.Made.{Made}
 
 -- what is left of a text of changes, and of the replies to them, and the last checkpoint before that

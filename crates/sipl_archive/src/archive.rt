@@ -7,10 +7,10 @@ ghost use Rattle.sipl_archive.specs.Archive.{run_named, setting_line, transports
 
 use crate::folder::{expect_none_but, expect_same, list};
 use crate::runs::read_name;
-use crate::text::{write_event, write_number};
 use sha2::{Digest, Sha256};
 use sipl_book::{Event, Extent, Page};
 use sipl_choice::{Abilities, Families, Transport};
+use sipl_lines::{write_event, write_number};
 use sipl_outages::Held;
 use std::alloc::{AllocError, Global};
 use std::fs::{File, OpenOptions, TryLockError};
@@ -273,8 +273,8 @@ fn write_head(
         ≡ out.old.items ++ page_head extent.first extent.count client.now) }
 {
     out.extend_from_slice(b"siplocd page")?;
-    write_number(alloc, out, extent.first)?;
-    write_number(alloc, out, extent.count)?;
+    write_number(out, extent.first)?;
+    write_number(out, extent.count)?;
     out.push(b'\n')?;
     out.extend_from_slice(client)?;
     out.push(b'\n')?;

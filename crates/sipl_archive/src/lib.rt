@@ -1,5 +1,4 @@
-//! What a daemon writes and reads again: its changes as lines of a session, its state, and the pages of its
-//! journal, which are replayed.
+//! What a daemon writes and reads again: its state, and the pages of its journal, which are replayed.
 #![tactic(auto)]
 
 mod archive;
@@ -8,12 +7,12 @@ mod items;
 mod plain;
 mod runs;
 mod state;
-mod text;
 mod zones;
 
 pub use archive::Archive;
 pub use folder::is_passed_over;
-pub use items::{replies_to, split_line, taken_by};
+pub use items::replies_to;
 pub use runs::{ReplayFault, Replayed, replay};
-pub use state::{Made, checkpoint_of, find_checkpoint, made_of, state_text, whole_len};
-pub use text::{checkpoint_text, clock_text, edit_text, hold_text, release_text};
+pub use state::{
+    Made, checkpoint_of, checkpoint_text, find_checkpoint, made_of, state_text, whole_len,
+};

@@ -11,11 +11,11 @@ ghost use Rattle.sipl_archive.specs.Runs.{begins_run, counted, ended_by, number_
 
 use crate::archive::digest_line;
 use crate::folder::list;
-use crate::items::{event_of, is_change, is_find, replies_to, split_line};
+use crate::items::{event_of, replies_to};
 use crate::plain::Plain;
 use memchr::memmem;
 use sha2::{Digest, Sha256};
-use sipl_lines::{OnlyEvents, Settings, SettingsFault};
+use sipl_lines::{OnlyEvents, Settings, SettingsFault, is_change, is_find, split_line};
 use sipl_records::{next_field, read_number};
 use std::alloc::{AllocError, AllocFailed, Global};
 use std::rt::Files;

@@ -2,12 +2,12 @@
 ghost use Rattle.std.specs.Prelude.{◌≡◌, ◌≤◌, ◌++◌, drop, length, None, Some, IfOk, IfSome, MatchOption, OnOk};
 ghost use Rattle.sipl_archive.specs.Commands.{HasCheckpoint, IsWhole, LacksCheckpoint, checkpoint_in};
 ghost use Rattle.sipl_archive.specs.Restoring.{IsMade, after_made};
-ghost use Rattle.sipl_archive.specs.Text.{state_text};
+ghost use Rattle.sipl_archive.specs.Text.{checkpoint_line, hold_lines, state_head, state_text};
 
-use crate::items::{is_change, item_of, reply_of, split_line};
-use crate::text::{write_head, write_holds};
 use crate::zones::write_zones;
 use sipl_book::State;
+use sipl_lines::{is_change, item_of, reply_of, split_line, write_clock, write_hold, write_number};
+use sipl_outages::Board;
 use sipl_records::read_number;
 use std::alloc::{AllocError, Global};
 
@@ -31,12 +31,54 @@ fn write_state(
     ensures { OnOk result (out.new.items ≡ out.old.items ++ state_text checkpoint state.now) }
 {
     let Some(board) = state.board() else {
-        write_head(alloc, out, checkpoint, 0)?;
+        write_head(out, checkpoint, 0)?;
         return write_zones(alloc, out, state.apexes(), state.records());
     };
-    write_head(alloc, out, checkpoint, board.now())?;
+    write_head(out, checkpoint, board.now())?;
     write_zones(alloc, out, state.apexes(), state.records())?;
-    write_holds(alloc, out, board)
+    write_holds(out, board)
+}
+
+/// The line of a checkpoint. The only error is an allocation failure.
+pub fn checkpoint_text(alloc: Global, checkpoint: u64) -> Result<Vec<u8>, AllocError>
+    ensures { IfOk result (λ text. text.items ≡ checkpoint_line checkpoint) }
+{
+    let mut out = Vec::new(alloc);
+    write_checkpoint(&mut out, checkpoint)?;
+    Ok(out)
+}
+
+// Appends the first lines of a state: its checkpoint, and the time, unless that is 0.
+fn write_head(out: &mut Vec<u8>, checkpoint: u64, now: u64) -> Result<(), AllocError>
+    ensures { OnOk result (out.new.items ≡ out.old.items ++ state_head checkpoint now) }
+{
+    write_checkpoint(out, checkpoint)?;
+    if now > 0 {
+        return write_clock(out, now);
+    }
+    Ok(())
+}
+
+// Appends the line of a checkpoint.
+fn write_checkpoint(out: &mut Vec<u8>, checkpoint: u64) -> Result<(), AllocError>
+    ensures { OnOk result (out.new.items ≡ out.old.items ++ checkpoint_line checkpoint) }
+{
+    out.extend_from_slice(b"# page")?;
+    write_number(out, checkpoint)?;
+    out.push(b'\n')?;
+    Ok(())
+}
+
+// Appends a line for each endpoint that is held, with the milliseconds that are left of its hold.
+fn write_holds(out: &mut Vec<u8>, board: &Board) -> Result<(), AllocError>
+    ensures { OnOk result (out.new.items
+        ≡ out.old.items ++ hold_lines board.now.holds.now board.now.holds.ends) }
+{
+    let now = board.now();
+    for (endpoint, end) in board.ends() {
+        write_hold(out, endpoint, end.saturating_sub(now))?;
+    }
+    Ok(())
 }
 
 /// The result of the changes of a text: the length in octets of those that were made, their number of lines,

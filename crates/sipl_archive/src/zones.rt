@@ -4,10 +4,11 @@ ghost use Rattle.std.specs.List.{IsDistinct};
 ghost use Rattle.sipl_names.specs.Labels.{is_within, same_name};
 ghost use Rattle.sipl_zonestore.specs.Store.{records_within};
 ghost use Rattle.sipl_archive.specs.Sorting.{listed, paired, with_record, zones_of};
-ghost use Rattle.sipl_archive.specs.Text.{zone_lines, zones_lines};
+ghost use Rattle.sipl_lines.specs.CommandText.{zone_lines};
+ghost use Rattle.sipl_archive.specs.Text.{zones_lines};
 
-use crate::text::{write_record_line, write_zone_line};
 use indexmap::IndexSet;
+use sipl_lines::{write_record_line, write_zone_line};
 use sipl_names::Name;
 use sipl_records::Record;
 use std::alloc::{AllocError, Global};
@@ -157,7 +158,7 @@ fn write_zone(
     ensures { OnOk result (out.new.items
         ≡ out.old.items ++ zone_lines apex.now (map (λ r. r.now) records.now)) }
 {
-    write_zone_line(alloc, out, apex, records.len())?;
+    write_zone_line(out, apex, records.len())?;
     for record in records {
         write_record_line(alloc, out, record)?;
     }

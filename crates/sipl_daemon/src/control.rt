@@ -1,7 +1,7 @@
 //! Control lines: what an operator asks of the daemon, beside its clients.
 use crate::daemon::Daemon;
-use sipl_archive::hold_text;
 use sipl_input::begins_request;
+use sipl_lines::hold_text;
 use sipl_listen::{Client, Stream};
 use sipl_names::Name;
 use sipl_outages::Board;

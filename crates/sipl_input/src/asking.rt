@@ -3,8 +3,7 @@ ghost use Rattle.std.specs.Prelude.{◌≤◌, length};
 
 use crate::input::Input;
 use memchr::memchr;
-use sipl_archive::taken_by;
-use sipl_lines::{CommandWord, MAX_LINE_LEN};
+use sipl_lines::{CommandWord, MAX_LINE_LEN, taken_by};
 use sipl_records::next_field;
 use std::alloc::{AllocError, Global};
 use std::io;

@@ -30,10 +30,10 @@ use Rattle.sipl_lines.specs.Replies.{Serves}
 use Rattle.sipl_lines.specs.ReplyText.{answer_text, counts_line}
 use Rattle.sipl_lines.specs.Requests.{request_of}
 use Rattle.sipl_lines.specs.Session.{AtDesk, Performs, SessionState, new_session, session_protocol}
-use Rattle.sipl_archive.specs.Commands.{after_command, edits, first_line, is_find, moves, taken_by_fields}
+use Rattle.sipl_lines.specs.CommandLines.{after_command, edits, first_line, is_find, moves, taken_by_fields}
 use Rattle.sipl_archive.specs.Plain.{MakesEdit, MakesMove, PlainState, plain_rules}
 use Rattle.sipl_archive.specs.Replay.{Repeats, is_expected}
-use Rattle.sipl_archive.specs.Text.{endpoint_text, event_lines, words_field}
+use Rattle.sipl_lines.specs.CommandText.{endpoint_text, event_lines, words_field}
 use Rattle.sipl_laws.specs.Asked.{event_reply, event_request}
 use Rattle.sipl_laws.specs.Carried.{Accepts, edited, event_command, moved, plain_after}
 use Rattle.sipl_laws.specs.Events.{IsEvent}

@@ -7,9 +7,9 @@ use Rattle.sipl_names.specs.Labels.{Octets}
 use Rattle.sipl_records.specs.Fields.{fields_of}
 use Rattle.sipl_records.specs.declared.record.Record.{Record}
 use Rattle.sipl_masterfile.specs.RecordPrint.{IsRecord, record_text}
-use Rattle.sipl_archive.specs.Commands.{after_command, after_line, after_lines, after_reply_within, first_line, is_end, taken_by, taken_by_fields}
+use Rattle.sipl_lines.specs.CommandLines.{after_command, after_line, after_lines, after_reply_within, first_line, is_end, taken_by, taken_by_fields}
 use Rattle.sipl_lines.specs.Lines.{without_cr}
-use Rattle.sipl_archive.specs.Text.{record_line}
+use Rattle.sipl_lines.specs.CommandText.{record_line}
 use Rattle.sipl_laws.proofs.Cuts.{From, from-append, from-lower}
 use Rattle.sipl_laws.proofs.Octets.{from-record}
 use Rattle.sipl_laws.proofs.FieldLists.{first-field, line-before}

@@ -9,9 +9,9 @@ use Rattle.sipl_choice.specs.declared.endpoint.Endpoint.{Endpoint}
 use Rattle.sipl_plans.specs.Reasons.{reason_text}
 use Rattle.sipl_plans.specs.declared.answer.Answer.{Answer}
 use Rattle.sipl_plans.specs.declared.answer.Answer.TheVariants.{Targets, None as no_targets}
-use Rattle.sipl_archive.specs.Commands.{after_reply, after_reply_within, ends, first_passes}
+use Rattle.sipl_lines.specs.CommandLines.{after_reply, after_reply_within, ends, first_passes}
 use Rattle.sipl_lines.specs.ReplyText.{answer_text, target_line, target_lines}
-use Rattle.sipl_archive.specs.Text.{endpoint_text}
+use Rattle.sipl_lines.specs.CommandText.{endpoint_text}
 use Rattle.sipl_laws.specs.Events.{IsAnswer, IsEndpoint}
 use Rattle.sipl_laws.proofs.Cuts.{From, from-append, from-lower, from-test}
 use Rattle.sipl_laws.proofs.Cutting.{end-line, more-line}

@@ -17,10 +17,11 @@ use Rattle.sipl_book.specs.Words.{without_last_zeros}
 use Rattle.sipl_book.specs.declared.edit.Edit.TheVariants.{Load, Unload, Add, Remove}
 use Rattle.sipl_book.specs.declared.event.Event.{Event}
 use Rattle.sipl_book.specs.declared.event.Event.TheVariants.{Change, Hold, Release, Advance, Answer as Answered}
-use Rattle.sipl_archive.specs.Commands.{after_command, after_kept_reply, after_reply, edits, first_line, first_passes, is_find, moves, taken_by, taken_by_fields}
+use Rattle.sipl_lines.specs.CommandLines.{after_command, after_reply, edits, first_line, first_passes, is_find, moves, taken_by, taken_by_fields}
+use Rattle.sipl_archive.specs.Commands.{after_kept_reply}
 use Rattle.sipl_lines.specs.Requests.{request_of}
 use Rattle.sipl_lines.specs.ReplyText.{answer_text}
-use Rattle.sipl_archive.specs.Text.{endpoint_text, event_lines, record_line, words_field}
+use Rattle.sipl_lines.specs.CommandText.{endpoint_text, event_lines, record_line, words_field}
 use Rattle.sipl_laws.specs.Asked.{event_request, event_reply}
 use Rattle.sipl_laws.specs.Events.{IsEvent}
 use Rattle.sipl_laws.proofs.Cuts.{From, from-append, from-test}

@@ -18,7 +18,7 @@ use Rattle.sipl_uri.specs.QuestionText.{IsAskable, question_text}
 use Rattle.sipl_uri.specs.declared.question.Question.{Question}
 use Rattle.sipl_book.specs.Words.{without_last_zeros}
 use Rattle.sipl_lines.specs.Requests.{Request, unknown, zone, drop, add, del, find, hold, release, clock, add_request, del_request, hold_of, release_of, request_of}
-use Rattle.sipl_archive.specs.Text.{endpoint_text, words_field}
+use Rattle.sipl_lines.specs.CommandText.{endpoint_text, words_field}
 use Rattle.sipl_laws.specs.Events.{IsEndpoint}
 use Rattle.sipl_laws.proofs.Cuts.{From, from-lower, from-test}
 use Rattle.sipl_laws.proofs.Octets.{from-question, from-text_of}

@@ -9,7 +9,7 @@ use Rattle.std.proofs.lemmas.Str.Parse.{numerals_by_value, tells_all_ascii_digit
 use Rattle.sipl_names.specs.Labels.{Octets}
 use Rattle.sipl_records.specs.Fields.{fields_of, is_wsp, prepend_octet, trim_start}
 use Rattle.sipl_records.specs.Numbers.{number_of}
-use Rattle.sipl_archive.specs.Commands.{first_line}
+use Rattle.sipl_lines.specs.CommandLines.{first_line}
 use Rattle.sipl_laws.proofs.Cuts.{From}
 
 -- an octet that can be seen is no white space

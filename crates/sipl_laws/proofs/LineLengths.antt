@@ -21,7 +21,7 @@ use Rattle.sipl_choice.specs.declared.endpoint.Endpoint.{Endpoint}
 use Rattle.sipl_choice.specs.declared.transport.Transport.{Transport}
 use Rattle.sipl_choice.specs.declared.transport.Transport.TheVariants.{Udp, Tcp, Tls, Sctp}
 use Rattle.sipl_lines.specs.ReplyText.{number_field, word_field}
-use Rattle.sipl_archive.specs.Text.{endpoint_text}
+use Rattle.sipl_lines.specs.CommandText.{endpoint_text}
 use Rattle.sipl_laws.specs.Events.{IsEndpoint}
 
 pub length-number : (n : ℕ) → n < 2 ^ 64 → length (decimal n) ≤ 20

@@ -19,7 +19,7 @@ use Rattle.sipl_uri.specs.QuestionText.{host_text, port_text, question_text, sch
 use Rattle.sipl_uri.specs.declared.question.Question.{Question}
 use Rattle.sipl_lines.specs.Requests.{command_request, endpoint_of, fields_request, is_comment, request_of}
 use Rattle.sipl_lines.specs.ReplyText.{number_field, word_field}
-use Rattle.sipl_archive.specs.Text.{endpoint_text}
+use Rattle.sipl_lines.specs.CommandText.{endpoint_text}
 use Rattle.sipl_laws.specs.Events.{IsEndpoint}
 use Rattle.sipl_laws.proofs.Cuts.{From, from-append, from-lower}
 use Rattle.sipl_laws.proofs.Octets.{from-address, from-decimal, from-transport}

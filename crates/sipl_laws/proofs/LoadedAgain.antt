@@ -13,7 +13,7 @@ use Rattle.sipl_lines.specs.Commands.{Loads}
 use Rattle.sipl_lines.specs.Items.{Item, items_of, line}
 use Rattle.sipl_lines.specs.Replies.{Serves}
 use Rattle.sipl_lines.specs.Session.{session_protocol}
-use Rattle.sipl_archive.specs.Commands.{after_command, first_line}
+use Rattle.sipl_lines.specs.CommandLines.{after_command, first_line}
 use Rattle.sipl_archive.specs.Plain.{PlainState, plain_rules}
 use Rattle.sipl_archive.specs.Replay.{Repeats, is_expected}
 use Rattle.sipl_laws.specs.Asked.{event_reply}

@@ -12,7 +12,7 @@ use Rattle.sipl_book.specs.declared.event.Event.{Event}
 use Rattle.sipl_archive.specs.Archive.{IsHead, body_text, both, extent_in, file_text, page_head, page_name}
 use Rattle.sipl_archive.specs.Plain.{PlainState}
 use Rattle.sipl_archive.specs.Replay.{Exchange, RepeatsAll, RepeatsSome, exchange_text}
-use Rattle.sipl_archive.specs.Text.{event_lines}
+use Rattle.sipl_lines.specs.CommandText.{event_lines}
 use Rattle.sipl_laws.specs.Asked.{event_reply}
 use Rattle.sipl_laws.specs.Carried.{AcceptsAll, LoadsZone, all_after, event_command, plain_after}
 use Rattle.sipl_laws.specs.Events.{IsEvent, IsPage}

@@ -21,7 +21,7 @@ use Rattle.sipl_book.specs.declared.event.Event.{Event}
 use Rattle.sipl_book.specs.declared.event.Event.TheVariants.{Change, Hold, Release, Advance, Answer as Answered}
 use Rattle.sipl_book.specs.Words.{without_last_zeros}
 use Rattle.sipl_lines.specs.ReplyText.{answer_text, number_field}
-use Rattle.sipl_archive.specs.Text.{clock_line, edit_lines, endpoint_text, event_lines, hold_line, record_line, release_line, words_field}
+use Rattle.sipl_lines.specs.CommandText.{clock_line, edit_lines, endpoint_text, event_lines, hold_line, record_line, release_line, words_field}
 use Rattle.sipl_laws.specs.Events.{IsAnswered, IsEdit, IsEvent, kept_edit, kept_event}
 use Rattle.sipl_laws.proofs.Cuts.{From, cut, from-append, from-lower}
 use Rattle.sipl_laws.proofs.Octets.{from-question}

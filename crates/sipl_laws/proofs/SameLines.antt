@@ -18,7 +18,7 @@ use Rattle.sipl_plans.specs.declared.answer.Answer.TheVariants.{Targets, None as
 use Rattle.sipl_plans.specs.declared.answer.Reason.{Reason}
 use Rattle.sipl_plans.specs.declared.answer.Reason.TheVariants.{NoAddress, NotAvailable, NoTransport, AllHeld}
 use Rattle.sipl_lines.specs.ReplyText.{answer_text, number_field, target_line, target_lines}
-use Rattle.sipl_archive.specs.Text.{endpoint_text}
+use Rattle.sipl_lines.specs.CommandText.{endpoint_text}
 use Rattle.sipl_laws.specs.Events.{IsAnswer, IsEndpoint}
 use Rattle.sipl_laws.proofs.Cuts.{From, Opens, cut, from-test}
 use Rattle.sipl_laws.proofs.Octets.{from-address, from-decimal, from-text_of, from-transport, same-decimal}

@@ -9,7 +9,7 @@ use Rattle.sha2.proofs.Facts256.{length-sha256}
 use Rattle.sipl_names.specs.Labels.{Octets}
 use Rattle.sipl_book.specs.declared.event.Event.{Event}
 use Rattle.sipl_book.specs.Pages.{PageState}
-use Rattle.sipl_archive.specs.Text.{event_lines}
+use Rattle.sipl_lines.specs.CommandText.{event_lines}
 use Rattle.sipl_archive.specs.Archive.{body_text, digest_line, file_text, page_head, page_text}
 use Rattle.sipl_laws.specs.Events.{IsEvent, IsPage, kept_event}
 use Rattle.sipl_laws.proofs.SameEvents.{Readers, same-events}

@@ -12,7 +12,7 @@ use Rattle.sipl_masterfile.specs.RecordText.{record_of}
 use Rattle.sipl_masterfile.specs.Zones.{Zone}
 use Rattle.sipl_book.specs.Words.{before_zeros, without_last_zeros}
 use Rattle.sipl_lines.specs.ReplyText.{number_field}
-use Rattle.sipl_archive.specs.Text.{listed_words, record_line, zone_lines}
+use Rattle.sipl_lines.specs.CommandText.{listed_words, record_line, zone_lines}
 use Rattle.sipl_laws.specs.Events.{IsLoadable}
 use Rattle.sipl_laws.proofs.Cuts.{From, Opens, cut, from-append, from-lower, from-test}
 use Rattle.sipl_laws.proofs.Octets.{from-decimal, from-record}

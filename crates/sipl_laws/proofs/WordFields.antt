@@ -10,7 +10,7 @@ use Rattle.sipl_records.specs.Parts.{parts, prepend_to_first}
 use Rattle.sipl_srv.specs.Draws.{words_of}
 use Rattle.sipl_book.specs.Words.{before_zeros, without_last_zeros}
 use Rattle.sipl_lines.specs.DrawsField.{all_words, draws_of, word_of, words_in}
-use Rattle.sipl_archive.specs.Text.{listed_words}
+use Rattle.sipl_lines.specs.CommandText.{listed_words}
 use Rattle.sipl_laws.proofs.Cuts.{From, from-append, from-lower, from-test}
 use Rattle.sipl_laws.proofs.Octets.{from-decimal}
 use Rattle.sipl_laws.proofs.FieldLists.{first-field, number-read, only-field}

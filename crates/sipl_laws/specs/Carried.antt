@@ -17,7 +17,7 @@ use Rattle.sipl_book.specs.declared.edit.Edit.TheVariants.{Load}
 use Rattle.sipl_book.specs.declared.event.Event.{Event}
 use Rattle.sipl_book.specs.declared.event.Event.TheVariants.{Change, Hold, Release, Advance, Answer as Answered}
 use Rattle.sipl_archive.specs.Plain.{PlainState}
-use Rattle.sipl_archive.specs.Text.{event_lines, words_field}
+use Rattle.sipl_lines.specs.CommandText.{event_lines, words_field}
 
 -- the lines of an event without its reply
 abbrev pub event_command : Event → Octets

@@ -1,4 +1,5 @@
 pub mod Cutting
+pub mod CommandLines
 pub mod Replies
 pub mod Turning
 pub mod Exits

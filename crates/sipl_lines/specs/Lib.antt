@@ -14,6 +14,8 @@ pub mod Requests
 pub mod ZoneLines
 pub mod Gathering
 pub mod ReplyText
+pub mod CommandText
+pub mod CommandLines
 pub mod Desk
 pub mod ServiceDesk
 pub mod PlainDesk

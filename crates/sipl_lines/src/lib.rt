@@ -1,11 +1,13 @@
-//! The line server: sessions of commands and scripts of steps on a reader and a writer, the check of a
-//! zone's text, and the settings of the program.
+//! The line server: sessions of commands and scripts of steps on a reader and a writer, changes as the lines
+//! of a session, the check of a zone's text, and the settings of the program.
 #![tactic(auto)]
 
 mod book;
 mod calls;
 mod check;
 mod command;
+mod command_lines;
+mod command_text;
 mod conversation;
 mod desk;
 mod desk_commands;
@@ -30,6 +32,11 @@ mod tapped;
 pub use book::{serve_book, serve_book_within};
 pub use check::check_zone;
 pub use command::{CommandWord, MAX_LINE_LEN, MAX_ZONE_LINES};
+pub use command_lines::{is_change, is_find, item_of, reply_of, split_line, taken_by};
+pub use command_text::{
+    clock_text, edit_text, hold_text, release_text, write_clock, write_event, write_hold,
+    write_number, write_record_line, write_zone_line,
+};
 pub use desk::{Desk, EventDesk, MAX_REFUSAL_LEN, OnlyEvents};
 pub use lines::OutOfMemory;
 pub use script::{play_script, play_script_within};

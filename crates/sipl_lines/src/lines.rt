@@ -209,7 +209,7 @@ fn split_line(chunk: &[u8]) -> Option<(&[u8], &[u8])>
 }
 
 // A line without the CR at its end.
-fn trim_cr(line: &[u8]) -> &[u8]
+pub(crate) fn trim_cr(line: &[u8]) -> &[u8]
     ensures { result.now ≡ without_cr line.now }
 {
     let count = line.len();

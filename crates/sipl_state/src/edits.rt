@@ -7,9 +7,9 @@ ghost use Rattle.sipl_state.specs.Places.{place_after};
 
 use crate::pending::Pending;
 use crate::source::Source;
-use sipl_archive::{clock_text, edit_text, hold_text, release_text};
 use sipl_book::{Done, Edit};
 use sipl_choice::Endpoint;
+use sipl_lines::{clock_text, edit_text, hold_text, release_text};
 use sipl_service::{Pass, ServiceFault};
 use std::sync::Wait;
 use std::sync::atomic::{AtomicU64, Ordering};

@@ -1,7 +1,8 @@
 //! Files of the first format, which have no digests: a state, and the lines of the changes since then. They
 //! are read once, and written in the second.
 use crate::restoring::StateFault;
-use sipl_archive::{checkpoint_of, checkpoint_text, find_checkpoint, split_line, whole_len};
+use sipl_archive::{checkpoint_of, checkpoint_text, find_checkpoint, whole_len};
+use sipl_lines::split_line;
 use std::alloc::Global;
 
 /// What files of the first format have: the lines of a state, and those of the whole changes after it.

@@ -1,10 +1,12 @@
 //! The changes that are not in their file yet.
 ghost use Rattle.std.specs.Prelude.{◌≡◌, ◌<◌, ◌≤◌, ◌+◌, ◌++◌, ◌↔◌, [], if◌then◌else◌, length, nat_lt};
 ghost use Rattle.std.specs.Prelude.{IfOk, IsTrue, OnErr, OnOk, vec_len, vec_capacity};
-ghost use Rattle.sipl_archive.specs.Text.{checkpoint_line, clock_line};
+ghost use Rattle.sipl_lines.specs.CommandText.{clock_line};
+ghost use Rattle.sipl_archive.specs.Text.{checkpoint_line};
 ghost use Rattle.sipl_state.specs.Places.{long_end, number_after, place_after};
 
-use sipl_archive::{checkpoint_text, clock_text};
+use sipl_archive::checkpoint_text;
+use sipl_lines::clock_text;
 use std::alloc::{AllocError, Global};
 use std::mem;
 

@@ -4,12 +4,12 @@ use crate::changes::{Changes, Extent};
 use crate::files::{open_to_append, read_file, remove_new, sync_folder, take_place, write_new};
 use crate::first_format::FirstFormat;
 use crate::state_files::{FoundLog, StateFiles, point_after};
-use sipl_archive::{Made, checkpoint_of, made_of, replies_to, split_line, whole_len};
+use sipl_archive::{Made, checkpoint_of, made_of, replies_to, whole_len};
 use sipl_commits::{
     Commit, Log, LogFault, Point, StateFault as FileFault, log_of, read_log, read_state,
     write_state,
 };
-use sipl_lines::Desk;
+use sipl_lines::{Desk, split_line};
 use std::alloc::{AllocError, Global};
 use std::fs::File;
 use std::io;

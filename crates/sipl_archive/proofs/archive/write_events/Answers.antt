@@ -1,6 +1,6 @@
 use Rattle.std.proofs.Common.{◌+◌, take}
 use Rattle.sipl_archive.specs.Archive.{body_text}
-use Rattle.sipl_archive.specs.Text.{event_lines}
+use Rattle.sipl_lines.specs.CommandText.{event_lines}
 use Rattle.sipl_archive.proofs.Paging.{Sends, body_more, sends_more, sends_piece}
 use Rattle.sipl_archive.proofs.archive.write_events.Goals.{then-len-ge-PIECE_LEN+in_ok-write_piece, else-len-ge-PIECE_LEN}
 use Rattle.sipl_archive.proofs.archive.write_events.Goals as goal

@@ -1,5 +1,5 @@
 use Rattle.std.proofs.Common.{◌≡◌, ◌++◌, List, ℕ, drop, true, ap, sym, ◌∙◌, append_assoc}
-use Rattle.sipl_archive.specs.Commands.{first_line}
+use Rattle.sipl_lines.specs.CommandLines.{first_line}
 use Rattle.sipl_archive.specs.Replay.{is_expected}
 use Rattle.sipl_archive.proofs.Cutting.{IsCut, command_cut}
 use Rattle.sipl_archive.proofs.runs.replay_event.Goals as goal

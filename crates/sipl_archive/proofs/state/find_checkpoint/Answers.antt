@@ -2,7 +2,8 @@ use Rattle.std.proofs.Common.{◌≡◌, ◌∷◌, [], ◌++◌, ◌∙◌, ℕ
 use Rattle.std.specs.Prelude.{nat_eq}
 use Rattle.std.specs.Option.{option_eq}
 use Rattle.std.proofs.lemmas.List.{take_rest}
-use Rattle.sipl_archive.specs.Commands.{checkpoint_in, first_line}
+use Rattle.sipl_lines.specs.CommandLines.{first_line}
+use Rattle.sipl_archive.specs.Commands.{checkpoint_in}
 use Rattle.sipl_archive.proofs.Beginning.{begins_more, has_none_more}
 use Rattle.sipl_archive.proofs.state.find_checkpoint.Goals as goal
 

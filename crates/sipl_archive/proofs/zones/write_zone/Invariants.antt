@@ -1,6 +1,6 @@
 use Rattle.std.proofs.Common.{◌≡◌, ◌++◌, take, map}
 use Rattle.std.specs.List.{flat_map}
-use Rattle.sipl_archive.specs.Text.{record_line}
+use Rattle.sipl_lines.specs.CommandText.{record_line}
 use Rattle.sipl_archive.proofs.zones.write_zone.Given as goal
 
 -- the lines of the records so far

@@ -1,6 +1,6 @@
 use Rattle.std.proofs.Common.{◌≡◌, ◌++◌}
 use Rattle.sipl_archive.specs.Text.{hold_lines}
-use Rattle.sipl_archive.proofs.text.write_holds.Given as goal
+use Rattle.sipl_archive.proofs.state.write_holds.Given as goal
 
 -- the lines so far, and those of the holds left, are those of all
 abbrev pub invariant-loop-endpoint : goal.invariant-loop-endpoint

@@ -1,7 +1,7 @@
 use Rattle.std.proofs.Common.{◌≡◌, ◌++◌, take}
 use Rattle.std.specs.List.{flat_map}
-use Rattle.sipl_archive.specs.Text.{record_line}
-use Rattle.sipl_archive.proofs.text.write_zone.Given as goal
+use Rattle.sipl_lines.specs.CommandText.{record_line}
+use Rattle.sipl_lines.proofs.command_text.write_zone.Given as goal
 
 -- the lines of the records so far
 abbrev pub invariant-loop-record : goal.invariant-loop-record

@@ -1,6 +1,6 @@
 use Rattle.std.proofs.Common.{◌≡◌, ◌∷◌, ◌++◌, decimal, take}
 use Rattle.std.specs.List.{flat_map}
-use Rattle.sipl_archive.proofs.text.write_draws.Given as goal
+use Rattle.sipl_lines.proofs.command_text.write_draws.Given as goal
 
 -- the words so far, each after a comma
 abbrev pub invariant-loop-word : goal.invariant-loop-word

@@ -1,8 +1,8 @@
 use Rattle.std.proofs.Common.{◌≡◌, ◌+◌, ◌-◌, ◌∙◌, None, drop, sym, arith, length-drop}
 use Rattle.std.proofs.lemmas.List.{take_rest}
-use Rattle.sipl_archive.specs.Commands.{after_line}
-use Rattle.sipl_archive.proofs.Lines.{no_line, one_line}
-use Rattle.sipl_archive.proofs.items.item_of.Goals as goal
+use Rattle.sipl_lines.specs.CommandLines.{after_line}
+use Rattle.sipl_lines.proofs.CommandLines.{no_line, one_line}
+use Rattle.sipl_lines.proofs.command_lines.item_of.Goals as goal
 
 pub returns-in_err-len-2-clause-octets : goal.returns-in_err-len-2-clause-octets
 returns-in_err-len-2-clause-octets c =

@@ -1,6 +1,6 @@
 use Rattle.std.proofs.Common.{◌≡◌, ◌<◌, ◌≤◌, ◌-◌, drop, length}
-use Rattle.sipl_archive.specs.Commands.{after_command, after_lines}
-use Rattle.sipl_archive.proofs.items.item_of.Given as goal
+use Rattle.sipl_lines.specs.CommandLines.{after_command, after_lines}
+use Rattle.sipl_lines.proofs.command_lines.item_of.Given as goal
 
 -- what is after the lines that are left to take
 abbrev pub invariant-loop : goal.invariant-loop

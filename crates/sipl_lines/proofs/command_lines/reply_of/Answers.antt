@@ -1,7 +1,7 @@
-use Rattle.std.proofs.Common.{◌≡◌, ◌+◌, ◌-◌, ◌∙◌, Some, List, ℕ, drop, length, sym, ap, arith, length-drop}
+use Rattle.std.proofs.Common.{◌+◌, ◌-◌, ◌∙◌, Some, List, ℕ, drop, length, sym, ap, arith, length-drop}
 use Rattle.std.proofs.lemmas.List.{drop-drop, take_rest}
-use Rattle.sipl_archive.proofs.Replying.{reply_ended, reply_goes_on}
-use Rattle.sipl_archive.proofs.items.reply_of.Goals as goal
+use Rattle.sipl_lines.proofs.CommandLines.{reply_ended, reply_goes_on}
+use Rattle.sipl_lines.proofs.command_lines.reply_of.Goals as goal
 
 pub returns-then-is_end : goal.returns-then-is_end
 returns-then-is_end c =

@@ -1,6 +1,6 @@
 use Rattle.std.proofs.Common.{◌≡◌, ◌≤◌, ◌-◌, drop, length}
-use Rattle.sipl_archive.specs.Commands.{after_reply, after_reply_within}
-use Rattle.sipl_archive.proofs.items.reply_of.Given as goal
+use Rattle.sipl_lines.specs.CommandLines.{after_reply, after_reply_within}
+use Rattle.sipl_lines.proofs.command_lines.reply_of.Given as goal
 
 -- what is after the reply, of which so many lines may be left
 abbrev pub invariant-loop : goal.invariant-loop

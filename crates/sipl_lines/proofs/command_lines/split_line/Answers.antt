@@ -1,8 +1,8 @@
 use Rattle.std.proofs.Common.{[], ◌+◌, ◌∙◌, get_or, sym, ap, add-one, unwrap_or, eq-eqb, arith}
 use Rattle.std.proofs.lemmas.List.{take_rest}
 use Rattle.std.proofs.lemmas.Bool.{eqb-true}
-use Rattle.sipl_archive.proofs.Lines.{line_found, line_missing}
-use Rattle.sipl_archive.proofs.items.split_line.Goals as goal
+use Rattle.sipl_lines.proofs.CommandLines.{line_found, line_missing}
+use Rattle.sipl_lines.proofs.command_lines.split_line.Goals as goal
 
 pub returns-in-Some-clause-line : goal.returns-in-Some-clause-line
 returns-in-Some-clause-line c =

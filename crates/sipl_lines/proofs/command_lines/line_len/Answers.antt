@@ -1,7 +1,7 @@
 use Rattle.std.proofs.Common.{get_or, add-one, eq-eqb, arith}
 use Rattle.std.proofs.lemmas.Bool.{eqb-true}
-use Rattle.sipl_archive.proofs.Lines.{line_found, line_missing}
-use Rattle.sipl_archive.proofs.items.line_len.Goals as goal
+use Rattle.sipl_lines.proofs.CommandLines.{line_found, line_missing}
+use Rattle.sipl_lines.proofs.command_lines.line_len.Goals as goal
 
 pub returns-in_err-memchr : goal.returns-in_err-memchr
 returns-in_err-memchr c =
