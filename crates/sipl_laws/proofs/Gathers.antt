@@ -11,14 +11,14 @@ use Rattle.sipl_records.specs.Parts.{parts, prepend_to_first}
 use Rattle.sipl_records.specs.declared.record.Record.{Record}
 use Rattle.sipl_masterfile.specs.RecordPrint.{IsRecord, record_text}
 use Rattle.sipl_masterfile.specs.Zones.{zone_of}
-use Rattle.sipl_lines.specs.Commands.{Keeps, Loads}
+use Rattle.sipl_lines.specs.Commands.{Keeps}
 use Rattle.sipl_lines.specs.Desk.{DeskRules}
-use Rattle.sipl_lines.specs.Gathering.{after_line, after_long_line, after_short_line, gathering_of, no_lines}
+use Rattle.sipl_lines.specs.Gathering.{Gathers, LoadsOrRefuses, after_line, after_long_line, after_short_line, gathering_of, no_lines, text_read, zone_gathered}
 use Rattle.sipl_lines.specs.Items.{Item, end_of_input, items_of, line, line_items}
 use Rattle.sipl_lines.specs.Lines.{lines_among, lines_of, without_cr}
 use Rattle.sipl_lines.specs.Replies.{Serves}
 use Rattle.sipl_lines.specs.Requests.{request_of, zone}
-use Rattle.sipl_lines.specs.Session.{AtDesk, Gathers, LoadsGathered, Obeys, SessionState, new_session, session_protocol, with_gathering}
+use Rattle.sipl_lines.specs.Session.{Obeys, SessionState, new_session, session_loader, session_protocol, with_gathering}
 use Rattle.sipl_laws.proofs.Cuts.{From}
 use Rattle.sipl_laws.proofs.Cutting.{no-cr}
 use Rattle.sipl_laws.proofs.LineLengths.{length-record}
@@ -117,18 +117,18 @@ module _ {D F : Type 0} (rules : DeskRules D F) where
   abbrev taking : Gathering → D → SessionState D
   taking gathering desk = with_gathering (Some gathering) (new_session desk)
 
-  gathers-more : (gathering : Gathering) (left : ℕ) (state : SessionState D) → gathering.left ≡ suc left → Gathers rules gathering state [] (with_gathering (Some gathering) state)
+  gathers-more : (gathering : Gathering) (left : ℕ) (state : SessionState D) → gathering.left ≡ suc left → Gathers (session_loader rules) gathering state [] (with_gathering (Some gathering) state)
   gathers-more gathering left state more =
       let test : (gathering.left == 0) ≡ false = grind (arith, nat_tests) in
       subst
-      (λ (b : Bool). OnTrue b (AtDesk (LoadsGathered rules gathering.gathered) (with_gathering None state) [] (with_gathering (Some gathering) state)) × OnFalse b (Keeps [] (with_gathering (Some gathering) state) [] (with_gathering (Some gathering) state)))
+      (λ (b : Bool). OnTrue b (LoadsOrRefuses (session_loader rules) (zone_gathered gathering.gathered) (with_gathering None state) [] (with_gathering (Some gathering) state)) × OnFalse b (Keeps [] (with_gathering (Some gathering) state) [] (with_gathering (Some gathering) state)))
       (sym test) (tt, (refl, refl))
 
-  gathers-last : (gathering : Gathering) (state : SessionState D) (told : Octets) (after : SessionState D) → gathering.left ≡ 0 → AtDesk (LoadsGathered rules gathering.gathered) (with_gathering None state) told after → Gathers rules gathering state told after
+  gathers-last : (gathering : Gathering) (state : SessionState D) (told : Octets) (after : SessionState D) → gathering.left ≡ 0 → LoadsOrRefuses (session_loader rules) (zone_gathered gathering.gathered) (with_gathering None state) told after → Gathers (session_loader rules) gathering state told after
   gathers-last gathering state told after none loads =
       let test : (gathering.left == 0) ≡ true = grind (arith, nat_tests) in
       subst
-      (λ (b : Bool). OnTrue b (AtDesk (LoadsGathered rules gathering.gathered) (with_gathering None state) told after) × OnFalse b (Keeps [] (with_gathering (Some gathering) state) told after))
+      (λ (b : Bool). OnTrue b (LoadsOrRefuses (session_loader rules) (zone_gathered gathering.gathered) (with_gathering None state) told after) × OnFalse b (Keeps [] (with_gathering (Some gathering) state) told after))
       (sym test) (loads, tt)
 
   -- a desk is served the end of the input
@@ -143,12 +143,12 @@ module _ {D F : Type 0} (rules : DeskRules D F) where
   }
 
   -- the last line of a zone is taken
-  serves-last : (gathering taken : Gathering) (last : Octets) (before : D) (told : Octets) (after : D) → after_line last gathering ≡ taken → taken.left ≡ 0 → LoadsGathered rules taken.gathered before told after → Serves (session_protocol rules) (taking gathering before) (line last ∷ end_of_input ∷ []) told (new_session after)
+  serves-last : (gathering taken : Gathering) (last : Octets) (before : D) (told : Octets) (after : D) → after_line last gathering ≡ taken → taken.left ≡ 0 → LoadsOrRefuses (session_loader rules) (zone_gathered taken.gathered) (new_session before) told (new_session after) → Serves (session_protocol rules) (taking gathering before) (line last ∷ end_of_input ∷ []) told (new_session after)
   serves-last gathering taken last before told after is none loads = record {
     reply = told;
     replies = [];
     between = new_session after;
-    first = (taking gathering before, ([], refl), (tt, inl (subst (λ (g : Gathering). Gathers rules g (taking gathering before) told (new_session after)) (sym is) (gathers-last taken (taking gathering before) told (new_session after) none (loads, refl)))));
+    first = (taking gathering before, ([], refl), (tt, inl (subst (λ (g : Gathering). Gathers (session_loader rules) g (taking gathering before) told (new_session after)) (sym is) (gathers-last taken (taking gathering before) told (new_session after) none loads))));
     others = serves-end after;
     joined = sym (append-nil told);
   }
@@ -159,7 +159,7 @@ module _ {D F : Type 0} (rules : DeskRules D F) where
     reply = [];
     replies = told;
     between = taking taken before;
-    first = (taking gathering before, ([], refl), (tt, inl (subst (λ (g : Gathering). Gathers rules g (taking gathering before) [] (taking taken before)) (sym is) (gathers-more taken left (taking gathering before) more))));
+    first = (taking gathering before, ([], refl), (tt, inl (subst (λ (g : Gathering). Gathers (session_loader rules) g (taking gathering before) [] (taking taken before)) (sym is) (gathers-more taken left (taking gathering before) more))));
     others = serves;
     joined = refl;
   }
@@ -167,7 +167,7 @@ module _ {D F : Type 0} (rules : DeskRules D F) where
   module _ (apex : Labels) (before : D) (told : Octets) (after : D) where
     -- a zone's text is loaded
     abbrev pub LoadsText : Octets → Type 0
-    LoadsText text = Loads rules (zone_of text apex) before told after
+    LoadsText text = LoadsOrRefuses (session_loader rules) (text_read (zone_of text apex)) (new_session before) told (new_session after)
 
     text-so-far : (text : Octets) (r : Record) (others : Octets) → (text ++ 10 ∷ record_text r) ++ 10 ∷ others ≡ text ++ 10 ∷ ((record_text r ++ 10 ∷ []) ++ others)
     text-so-far text r others = simp append_assoc
@@ -191,16 +191,16 @@ module _ {D F : Type 0} (rules : DeskRules D F) where
         (serves-others next records (record_text r) all.0 all.1 (subst LoadsText (joined (record_text r) (10 ∷ []) (records_text (next ∷ records))) loads))
 
     -- a zone's first line is obeyed
-    obeys-first : (first : Octets) (count : ℕ) (reply : Octets) (next : SessionState D) → rules.zone_octets before ≡ None → request_of first ≡ zone (text_of apex) count → Gathers rules (gathering_of (text_of apex) count None) (new_session before) reply next → Obeys rules (request_of first) (new_session before) reply next
+    obeys-first : (first : Octets) (count : ℕ) (reply : Octets) (next : SessionState D) → rules.zone_octets before ≡ None → request_of first ≡ zone (text_of apex) count → Gathers (session_loader rules) (gathering_of (text_of apex) count None) (new_session before) reply next → Obeys rules (request_of first) (new_session before) reply next
     obeys-first first count reply next unlimited asks gathers =
-        let limited = subst (λ limit. Gathers rules (gathering_of (text_of apex) count limit) (new_session before) reply next) (sym unlimited) gathers in
+        let limited = subst (λ limit. Gathers (session_loader rules) (gathering_of (text_of apex) count limit) (new_session before) reply next) (sym unlimited) gathers in
         subst (λ request. Obeys rules request (new_session before) reply next) (sym asks) (inl (inl limited))
 
     -- a zone without records is loaded at once
-    gathers-none : IsName apex → LoadsText [] → Gathers rules (gathering_of (text_of apex) 0 None) (new_session before) told (new_session after)
+    gathers-none : IsName apex → LoadsText [] → Gathers (session_loader rules) (gathering_of (text_of apex) 0 None) (new_session before) told (new_session after)
     gathers-none is loads =
-        let named = subst (λ read. LoadsGathered rules (no_lines read None) before told after) (sym (name_of-text_of apex [] is)) loads in
-        gathers-last (gathering_of (text_of apex) 0 None) (new_session before) told (new_session after) refl (named, refl)
+        let named = subst (λ read. LoadsOrRefuses (session_loader rules) (zone_gathered (no_lines read None)) (new_session before) told (new_session after)) (sym (name_of-text_of apex [] is)) loads in
+        gathers-last (gathering_of (text_of apex) 0 None) (new_session before) told (new_session after) refl named
 
     -- a zone's first line, its records, and the end of the input, at a desk that has no limit
     pub serves-zone : (records : List Record) (first : Octets) → rules.zone_octets before ≡ None → IsName apex → AllByRecursion IsRecord records → request_of first ≡ zone (text_of apex) (length records) → LoadsText (records_text records) → Serves (session_protocol rules) (new_session before) (line first ∷ record_items records) told (new_session after)

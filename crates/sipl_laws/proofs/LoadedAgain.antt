@@ -9,11 +9,11 @@ use Rattle.sipl_uri.specs.declared.question.Question.{Question}
 use Rattle.sipl_book.specs.declared.edit.Edit.TheVariants.{Load, Unload, Add, Remove}
 use Rattle.sipl_book.specs.declared.event.Event.{Event}
 use Rattle.sipl_book.specs.declared.event.Event.TheVariants.{Change, Hold, Release, Advance, Answer as Answered}
-use Rattle.sipl_lines.specs.Commands.{Loads}
+use Rattle.sipl_lines.specs.Gathering.{LoadsOrRefuses, text_read}
 use Rattle.sipl_lines.specs.Items.{Item, items_of, line}
 use Rattle.sipl_lines.specs.Replies.{Serves}
-use Rattle.sipl_lines.specs.Session.{session_protocol}
 use Rattle.sipl_lines.specs.CommandLines.{after_command, first_line}
+use Rattle.sipl_lines.specs.Session.{session_loader, session_protocol}
 use Rattle.sipl_archive.specs.Plain.{PlainState, plain_rules}
 use Rattle.sipl_archive.specs.Replay.{Repeats, is_expected}
 use Rattle.sipl_laws.specs.Asked.{event_reply}
@@ -42,11 +42,11 @@ module _ (reads : Readers) (printing : Printing) (short : (question : Question) 
   same-zone : (z : Zone) → IsZone z → IsZone (zone_with z.apex z.records 0 0)
   same-zone z zone = record { within = zone.within; distinct = zone.distinct; aliases = zone.aliases; fits = zone.fits }
 
-  loads-again : (z : Zone) → IsLoadable z → IsZone z → Accepts before (loading z) → Loads plain_rules (zone_of (records_text z.records) z.apex) before (told (loading z)) (plain_after (loading z) before)
+  loads-again : (z : Zone) → IsLoadable z → IsZone z → Accepts before (loading z) → LoadsOrRefuses (session_loader plain_rules) (text_read (zone_of (records_text z.records) z.apex)) (at before) (told (loading z)) (at (plain_after (loading z) before))
   loads-again z is zone accepts =
-      subst (λ read. Loads plain_rules read before (told (loading z)) (plain_after (loading z) before))
+      subst (λ read. LoadsOrRefuses (session_loader plain_rules) (text_read read) (at before) (told (loading z)) (at (plain_after (loading z) before)))
       (sym (zone-read printing z.apex z.records is.records (same-zone z zone)))
-      (Ok nothing_changed, makes-edit (Load (zone_with z.apex z.records 0 0)) before nothing_changed accepts, refl)
+      ((Ok nothing_changed, makes-edit (Load (zone_with z.apex z.records 0 0)) before nothing_changed accepts, refl), refl)
 
   items-zone : (z : Zone) → IsLoadable z → items_of (event_command (loading z)) ≡ line (zone_line z) ∷ record_items z.records
   items-zone z is =

@@ -18,16 +18,18 @@ use Rattle.sipl_failover.specs.declared.step.Step.{Step}
 use Rattle.sipl_book.specs.declared.fault.BookFault.{BookFault}
 use Rattle.sipl_book.specs.declared.fault.BookFault.TheVariants.{Memory}
 use Rattle.sipl_book.specs.declared.outcome.Handed.{Handed}
+use Rattle.sipl_masterfile.specs.Zones.{Zone}
 use Rattle.sipl_lines.specs.declared.gather.Gathering.{Gathering}
-use Rattle.sipl_lines.specs.Commands.{Keeps, Asks, moves, CallAct, hear, set_clock, open_call, Act, says, takes_zone, asks, in_call, quits, task_of}
+use Rattle.sipl_lines.specs.declared.gather.LoadFault.{LoadFault}
+use Rattle.sipl_lines.specs.Commands.{Keeps, Asks, moves, zone_asked, CallAct, hear, set_clock, open_call, Act, says, takes_zone, asks, in_call, quits, task_of}
 use Rattle.sipl_lines.specs.Calls.{CallDesk, with_call, hold_in, DoesInCall, MakesHold, Reports, GoesOn, Hears, Ticks, TellsTime, SetsClock, OpensOver, Opens, OpensFor, is_open, CallsTargets, CallsUnlessOpen, CallsUri, steps_text}
-use Rattle.sipl_lines.specs.Gathering.{gathering_of, after_line, at_end, lost}
+use Rattle.sipl_lines.specs.Gathering.{Gathers, GathersOrLoses, LoadsOrRefuses, gathering_of, after_line, at_end, load_fault_text, lost, zone_gathered}
 use Rattle.sipl_lines.specs.Items.{Item, line, end_of_input}
 use Rattle.sipl_lines.specs.OneReply.{AreEqualOrLost, EndsInMemory, with_lines_lost}
 use Rattle.sipl_lines.specs.PlainDesk.{PlainState, find_ending, move_ending, plain_rules}
 use Rattle.sipl_lines.specs.ReplyText.{counts_line, refusal_line}
 use Rattle.sipl_lines.specs.Requests.{Request, request_of}
-use Rattle.sipl_lines.specs.Session.{SessionState, with_desk, with_gathering, AtCall, AtDesk, Gathers, GathersOrLoses, LoadsGathered, gathered_asked, DoesAct, MayReply, Obeys, TakesEnd, TakesItem, TakesLine}
+use Rattle.sipl_lines.specs.Session.{SessionState, with_desk, with_gathering, AtCall, AtDesk, DoesAct, MayReply, Obeys, TakesEnd, TakesItem, TakesLine, session_loader}
 use Rattle.sipl_lines.proofs.DeskCalls.{HasOne, asks_one, ends_one, same_reply}
 
 -- of two facts of a case the same one is known
@@ -158,10 +160,14 @@ on_call Acts one before t u a b done done' well well' =
     let told = one (with_call before.desk before.call) t u (with_call a.desk a.call) (with_call b.desk b.call) done.0 done'.0 well well' in
     (told.0, done.1 ∙ ap (λ at. record before { desk = at.desk; call = at.call }) told.1 ∙ sym done'.1)
 
-gathers : (gathering : Gathering) → HasOne {S = State} (Gathers plain_rules gathering)
+loads : (read : Result Zone LoadFault) → HasOne {S = State} (LoadsOrRefuses (session_loader plain_rules) read)
+loads (Ok loaded) = on_desk (Asks plain_rules (zone_asked loaded)) (asks_one (zone_asked loaded))
+loads (Err fault) = same_reply (load_fault_text fault)
+
+gathers : (gathering : Gathering) → HasOne {S = State} (Gathers (session_loader plain_rules) gathering)
 gathers gathering before t u a b done done' well well' =
     split (gathering.left == 0)
-    (λ loaded loaded'. on_desk (LoadsGathered plain_rules gathering.gathered) (asks_one (gathered_asked gathering.gathered)) (with_gathering None before) t u a b loaded loaded' well well')
+    (λ loaded loaded'. loads (zone_gathered gathering.gathered) (with_gathering None before) t u a b loaded loaded' well well')
     (λ kept kept'. (kept.0 ∙ sym kept'.0, kept.1 ∙ sym kept'.1))
     done done'
 
@@ -180,17 +186,17 @@ abbrev HasOneOrLost : (State → Octets → State → Type 0) → Type 0
 HasOneOrLost Acts = (before : State) (t u : Octets) (a b : State) → Acts before t a → Acts before u b → (EndsInMemory t → ⊥) → (EndsInMemory u → ⊥) → (t ≡ u) × OneOrLost before a b
 
 -- the lines are lost after the one, and not after the other: the reply to lost ones is `err Memory`
-gathers_lost : (gathering : Gathering) (before : State) (t u : Octets) (a b : State) → Gathers plain_rules gathering before t a → Gathers plain_rules (lost gathering.left) before u b
+gathers_lost : (gathering : Gathering) (before : State) (t u : Octets) (a b : State) → Gathers (session_loader plain_rules) gathering before t a → Gathers (session_loader plain_rules) (lost gathering.left) before u b
     → (EndsInMemory u → ⊥) → (t ≡ u) × IsLost before b a
 gathers_lost gathering before t u a b done lost_done well =
     split (gathering.left == 0)
-    (λ loaded failed. absurd (well ([], failed.0.0)))
+    (λ loaded failed. absurd (well ([], failed.0)))
     (λ kept kept'. (kept.0 ∙ sym kept'.0, record { lines = kept'.1 ∙ ap (λ s. with_lines_lost s) (sym kept.1); left = gathering.left; taken = kept'.1 }))
     done lost_done
 
 either_gathers : (gathering : Gathering) (before : State) (t u : Octets) (a b : State)
-    → Gathers plain_rules gathering before t a ⊎ Gathers plain_rules (lost gathering.left) before t a
-    → Gathers plain_rules gathering before u b ⊎ Gathers plain_rules (lost gathering.left) before u b
+    → Gathers (session_loader plain_rules) gathering before t a ⊎ Gathers (session_loader plain_rules) (lost gathering.left) before t a
+    → Gathers (session_loader plain_rules) gathering before u b ⊎ Gathers (session_loader plain_rules) (lost gathering.left) before u b
     → (EndsInMemory t → ⊥) → (EndsInMemory u → ⊥) → (t ≡ u) × OneOrLost before a b
 either_gathers gathering before t u a b (inl done) (inl done') well well' =
     let one = gathers gathering before t u a b done done' well well' in (one.0, inl one.1)
@@ -205,7 +211,7 @@ forget_cause : {P Q R : Type 0} → P ⊎ (Q × R) → P ⊎ R
 forget_cause (inl done) = inl done
 forget_cause (inr done) = inr done.1
 
-gathers_or_loses : (gathering : Gathering) → HasOneOrLost (GathersOrLoses plain_rules gathering)
+gathers_or_loses : (gathering : Gathering) → HasOneOrLost (GathersOrLoses (session_loader plain_rules) gathering)
 gathers_or_loses gathering before t u a b done done' well well' = either_gathers gathering before t u a b (forget_cause done) (forget_cause done') well well'
 
 one : (Acts : State → Octets → State → Type 0) → HasOne Acts → HasOneOrLost Acts
@@ -272,12 +278,12 @@ may_reply item before t u a b reply reply' well well' =
 -- ---- the end of the input
 
 end_gathers : (gathering : Gathering) (before : State) (t u : Octets) (a b : State)
-    → Gathers plain_rules (at_end gathering) before t a ⊎ Gathers plain_rules (lost 0) before t a
-    → Gathers plain_rules (at_end gathering) before u b ⊎ Gathers plain_rules (lost 0) before u b
+    → Gathers (session_loader plain_rules) (at_end gathering) before t a ⊎ Gathers (session_loader plain_rules) (lost 0) before t a
+    → Gathers (session_loader plain_rules) (at_end gathering) before u b ⊎ Gathers (session_loader plain_rules) (lost 0) before u b
     → (EndsInMemory t → ⊥) → (EndsInMemory u → ⊥) → (t ≡ u) × (a ≡ b)
 end_gathers gathering before t u a b (inl done) (inl done') well well' = gathers (at_end gathering) before t u a b done done' well well'
-end_gathers gathering before t u a b (inl done) (inr failed) well well' = absurd (well' ([], failed.0.0.0))
-end_gathers gathering before t u a b (inr failed) done well well' = absurd (well ([], failed.0.0.0))
+end_gathers gathering before t u a b (inl done) (inr failed) well well' = absurd (well' ([], failed.0.0))
+end_gathers gathering before t u a b (inr failed) done well well' = absurd (well ([], failed.0.0))
 
 ends : (gathering : Option Gathering) → HasOne {S = State} (TakesEnd plain_rules gathering)
 ends None before t u a b kept kept' well well' = (kept.0 ∙ sym kept'.0, kept.1 ∙ sym kept'.1)

@@ -6,13 +6,13 @@ use Rattle.sipl_names.specs.Labels.{Octets}
 use Rattle.sipl_lines.specs.declared.gather.Gathered.TheVariants.{Lost}
 use Rattle.sipl_lines.specs.declared.gather.Gathering.{Gathering}
 use Rattle.sipl_lines.specs.Commands.{Keeps}
-use Rattle.sipl_lines.specs.Gathering.{after_line, after_long_line, after_short_line, lost}
+use Rattle.sipl_lines.specs.Gathering.{Gathers, GathersOrLoses, after_line, after_long_line, after_short_line, lost}
 use Rattle.sipl_lines.specs.Items.{Item, line, end_of_input, line_items}
 use Rattle.sipl_lines.specs.OneReply.{EndsInMemory, TellsMemory}
 use Rattle.sipl_lines.specs.PlainDesk.{plain_rules}
 use Rattle.sipl_lines.specs.Replies.{Pauses, Serves, Waits, WaitsAndReplies}
 use Rattle.sipl_lines.specs.ReplyText.{refusal_line}
-use Rattle.sipl_lines.specs.Session.{with_desk, with_gathering, AtDesk, Gathers, GathersOrLoses, LoadsGathered, MayReply, TakesEnd, TakesItem, TakesLine, session_protocol}
+use Rattle.sipl_lines.specs.Session.{with_desk, with_gathering, MayReply, TakesEnd, TakesItem, TakesLine, session_loader, session_protocol}
 use Rattle.sipl_lines.proofs.OneReply.{IsLost, OneOrLosing, State, end_once, reply_once}
 
 -- what a session at the plain machine serves
@@ -55,14 +55,14 @@ stays_lost false octets = refl
 line_lost : (octets : Octets) (n : ℕ) → after_line octets (lost n) ≡ lost (n - 1)
 line_lost octets n = λ i. record { left = n - 1; gathered = stays_lost (nat_lt 65536 (length octets)) octets i }
 
-gathers_lost : (n : ℕ) (s : State) (text : Octets) (u : State) → GathersOrLoses plain_rules (lost n) s text u → Gathers plain_rules (lost n) s text u
+gathers_lost : (n : ℕ) (s : State) (text : Octets) (u : State) → GathersOrLoses (session_loader plain_rules) (lost n) s text u → Gathers (session_loader plain_rules) (lost n) s text u
 gathers_lost n s text u (inl done) = done
 gathers_lost n s text u (inr done) = done.1
 
 lost_on : (last : Bool) (n : ℕ) (s : State) (text : Octets) (u : State)
-    → OnTrue last (AtDesk (LoadsGathered plain_rules Lost) (with_gathering None s) text u) × OnFalse last (Keeps [] (with_gathering (Some (lost n)) s) text u)
+    → OnTrue last (Keeps (refusal_line (codes "Memory")) (with_gathering None s) text u) × OnFalse last (Keeps [] (with_gathering (Some (lost n)) s) text u)
     → (EndsInMemory text → ⊥) → u ≡ with_gathering (Some (lost n)) s
-lost_on true n s text u done well = absurd (well ([], done.0.0.0))
+lost_on true n s text u done well = absurd (well ([], done.0.0))
 lost_on false n s text u done well = done.1.1
 
 -- what an item does where the session has not ended
@@ -75,13 +75,13 @@ line_on : (s : State) (octets : Octets) (n : ℕ) (text : Octets) (u : State) �
     → (EndsInMemory text → ⊥) → u ≡ with_gathering (Some (lost (n - 1))) s
 line_on s octets n text u gathering taken well =
     let P : Option Gathering → Type 0 = λ g. TakesLine plain_rules g octets s text u in
-    let Q : Gathering → Type 0 = λ g. GathersOrLoses plain_rules g s text u in
+    let Q : Gathering → Type 0 = λ g. GathersOrLoses (session_loader plain_rules) g s text u in
     lost_on (n - 1 == 0) (n - 1) s text u (gathers_lost (n - 1) s text u (subst Q (line_lost octets n) (subst P gathering taken))) well
 
 end_fails : (s : State) (n : ℕ) (text : Octets) (u : State) → s.gathering ≡ Some (lost n) → TakesEnd plain_rules s.gathering s text u → EndsInMemory text
 end_fails s n text u gathering taken =
     let P : Option Gathering → Type 0 = λ g. TakesEnd plain_rules g s text u in
-    ([], (gathers_lost 0 s text u (subst P gathering taken)).0.0.0)
+    ([], (gathers_lost 0 s text u (subst P gathering taken)).0.0)
 
 lost_fails : (lines : List Octets) (n : ℕ) (s : State) (text : Octets) (u : State) → s.gathering ≡ Some (lost n) → s.ended ≡ false
     → AtPlain s (line_items lines ++ end_of_input ∷ []) text u → (TellsMemory text → ⊥) → ⊥

@@ -15,16 +15,18 @@ use Rattle.sipl_failover.specs.FailoverRun.Event.{Ticked}
 use Rattle.sipl_failover.specs.Rules.{after as after_event, refusal_of}
 use Rattle.sipl_failover.specs.declared.fault.FailoverFault.{FailoverFault}
 use Rattle.sipl_book.specs.declared.outcome.Handed.{Handed}
+use Rattle.sipl_masterfile.specs.Zones.{Zone}
 use Rattle.sipl_lines.specs.declared.gather.Gathering.{Gathering}
+use Rattle.sipl_lines.specs.declared.gather.LoadFault.{LoadFault}
 use Rattle.sipl_lines.specs.declared.server.Ended.{Ended}
 use Rattle.sipl_lines.specs.declared.server.ServeFault.{ServeFault}
 use Rattle.sipl_lines.specs.declared.server.ServeFault.TheVariants.{Read, Write, TooManyTurns, Memory}
 use Rattle.sipl_lines.specs.declared.tapped.Tapped.{Tapped}
 use Rattle.sipl_lines.specs.Tapped.{tapped_inner}
-use Rattle.sipl_lines.specs.Commands.{Keeps, Asks, moves, CallAct, hear, set_clock, open_call, Act, says, takes_zone, asks, in_call, quits, task_of}
+use Rattle.sipl_lines.specs.Commands.{Keeps, Asks, moves, zone_asked, CallAct, hear, set_clock, open_call, Act, says, takes_zone, asks, in_call, quits, task_of}
 use Rattle.sipl_lines.specs.Calls.{CallDesk, with_call, hold_in, DoesInCall, MakesHold, GoesOn, Hears, Ticks, TellsTime, SetsClock, OpensFor, is_open, CallsUnlessOpen, CallsUri}
 use Rattle.sipl_lines.specs.Desk.{DeskRules}
-use Rattle.sipl_lines.specs.Gathering.{gathering_of, after_line, at_end, lost}
+use Rattle.sipl_lines.specs.Gathering.{Gathers, GathersOrLoses, LoadsOrRefuses, gathering_of, after_line, at_end, load_fault_text, lost, zone_gathered}
 use Rattle.sipl_lines.specs.Items.{Item, line, end_of_input, items_of, complete_items}
 use Rattle.sipl_lines.specs.Machine.{items_from}
 use Rattle.sipl_lines.specs.Replies.{AppendsReplies, Pauses, Serves, Waits}
@@ -32,7 +34,7 @@ use Rattle.sipl_lines.specs.ReplyText.{counts_line, refusal_line}
 use Rattle.sipl_lines.specs.Requests.{Request, request_of}
 use Rattle.sipl_lines.specs.Serving.{ServesWithin, ServesDesk}
 use Rattle.sipl_lines.specs.ServeFault.{OnReadFault, OnTooManyTurns}
-use Rattle.sipl_lines.specs.Session.{SessionState, with_gathering, AtCall, AtDesk, Gathers, GathersOrLoses, LoadsGathered, gathered_asked, DoesAct, MayPause, MayReply, Obeys, TakesEnd, TakesItem, TakesLine, new_session, session_protocol}
+use Rattle.sipl_lines.specs.Session.{SessionState, with_gathering, AtCall, AtDesk, DoesAct, MayPause, MayReply, Obeys, TakesEnd, TakesItem, TakesLine, new_session, session_loader, session_protocol}
 use Rattle.sipl_lines.specs.Streams.{ServesAll, ServesPrefix, ServesRead}
 use Rattle.sipl_lines.specs.Takes.{Takes, TakesFirst}
 use Rattle.sipl_lines.proofs.DeskCalls.{Carries, Implies, asks_seen, keeps}
@@ -132,13 +134,17 @@ module _ {D E F : Type 0} (seen : D → E) (R : DeskRules D F) (R' : DeskRules E
 
   -- ---- what a line does in the session
 
-  gathers : (gathering : Gathering) → Carries (session_seen seen) (Gathers R gathering) (Gathers R' gathering)
+  loads : (read : Result Zone LoadFault) → Carries (session_seen seen) (LoadsOrRefuses (session_loader R) read) (LoadsOrRefuses (session_loader R') read)
+  loads (Ok loaded) before text after done = on_desk seen (Asks R (zone_asked loaded)) (Asks R' (zone_asked loaded)) (asks_seen seen R R' implies (zone_asked loaded)) before text after done
+  loads (Err fault) before text after kept = keeps (session_seen seen) (load_fault_text fault) before text after kept
+
+  gathers : (gathering : Gathering) → Carries (session_seen seen) (Gathers (session_loader R) gathering) (Gathers (session_loader R') gathering)
   gathers gathering before text after done = (
-    on_true (gathering.left == 0) (λ loaded. on_desk seen (LoadsGathered R gathering.gathered) (LoadsGathered R' gathering.gathered) (asks_seen seen R R' implies (gathered_asked gathering.gathered)) (with_gathering None before) text after loaded) done.0,
+    on_true (gathering.left == 0) (λ loaded. loads (zone_gathered gathering.gathered) (with_gathering None before) text after loaded) done.0,
     on_false (gathering.left == 0) (λ kept. keeps (session_seen seen) [] (with_gathering (Some gathering) before) text after kept) done.1,
   )
 
-  gathers_or_loses : (gathering : Gathering) → Carries (session_seen seen) (GathersOrLoses R gathering) (GathersOrLoses R' gathering)
+  gathers_or_loses : (gathering : Gathering) → Carries (session_seen seen) (GathersOrLoses (session_loader R) gathering) (GathersOrLoses (session_loader R') gathering)
   gathers_or_loses gathering before text after (inl done) = inl (gathers gathering before text after done)
   gathers_or_loses gathering before text after (inr done) = inr (done.0, gathers (lost gathering.left) before text after done.1)
 
@@ -150,7 +156,7 @@ module _ {D E F : Type 0} (seen : D → E) (R : DeskRules D F) (R' : DeskRules E
   does_act : (act : Act) → Carries (session_seen seen) (DoesAct R act) (DoesAct R' act)
   does_act (says reply) before text after kept = (kept.0, ap (session_seen seen) kept.1)
   does_act (takes_zone apex lines) before text after (inl done) =
-      inl (subst (λ limit. Gathers R' (gathering_of apex lines limit) (session_seen seen before) text (session_seen seen after)) (implies.zone_octets before.desk)
+      inl (subst (λ limit. Gathers (session_loader R') (gathering_of apex lines limit) (session_seen seen before) text (session_seen seen after)) (implies.zone_octets before.desk)
       (gathers (gathering_of apex lines (R.zone_octets before.desk)) before text after done))
   does_act (takes_zone apex lines) before text after (inr done) = inr (gathers (lost lines) before text after done)
   does_act (asks asked) before text after done = on_desk seen (Asks R asked) (Asks R' asked) (asks_seen seen R R' implies asked) before text after done

@@ -1,10 +1,11 @@
--- What a step of a session does: a zone whose lines are all taken and an allocation fails, an endpoint
--- that is held or released, a question that is answered.
+-- What a step of a session does: a zone whose lines are all taken, an endpoint that is held or released,
+-- a question that is answered.
 use Rattle.std.proofs.Common.{◌≡◌, ◌⊎◌, ℕ, List, ◌++◌, ◌==◌, true, refl, sym, subst, inl, inr}
-use Rattle.std.specs.Prelude.{None, Some, Result, Ok, [], IsTrue, codes}
+use Rattle.std.specs.Prelude.{None, Some, Result, Ok, [], codes}
 use Rattle.std.specs.Bool.{OnTrue, OnFalse}
 use Rattle.sipl_names.specs.Labels.{Octets}
 use Rattle.sipl_records.specs.declared.fault.AddressFault.{AddressFault}
+use Rattle.sipl_masterfile.specs.Zones.{Zone}
 use Rattle.sipl_choice.specs.declared.endpoint.Endpoint.{Endpoint}
 use Rattle.sipl_srv.specs.declared.fault.DrawsFault.{DrawsFault}
 use Rattle.sipl_uri.specs.declared.fault.UriFault.{UriFault}
@@ -15,28 +16,30 @@ use Rattle.sipl_lines.specs.Commands.{Keeps, ChangesHold, DoesInSpace, AnswersUr
 use Rattle.sipl_lines.specs.Desk.{DeskRules}
 use Rattle.sipl_lines.specs.ReplyText.{HasTargets, evidence_text, refusal_line}
 use Rattle.sipl_lines.specs.Requests.{hold, release}
-use Rattle.sipl_lines.specs.Gathering.{lost, keeps_lines}
+use Rattle.sipl_lines.specs.Gathering.{Gathers, GathersOrLoses, Loader, LoadsOrRefuses, Reads, lost, zone_gathered}
 use Rattle.sipl_lines.specs.declared.desk_commands.HoldChange.TheVariants as change
 use Rattle.sipl_lines.specs.declared.gather.Gathering.{Gathering}
-use Rattle.sipl_lines.specs.declared.gather.Gathered.TheVariants.{Lost}
+use Rattle.sipl_lines.specs.declared.gather.LoadFault.{LoadFault}
 use Rattle.sipl_lines.specs.declared.session.Session.{Session}
-use Rattle.sipl_lines.specs.Session.{SessionState, AppendsText, AtDesk, LoadsGathered, GathersOrLoses, Performs, at_desk, with_gathering}
+use Rattle.sipl_lines.specs.Session.{AppendsText, Performs, at_desk}
 
-pub all_lost : {D F : Type 0} (rules : DeskRules D F) (gathering : Gathering) (before after : SessionState D) (old new : Octets)
-    → (gathering.left == 0) ≡ true → IsTrue (keeps_lines gathering.gathered)
-    → new ≡ old ++ refusal_line (codes "Memory") → after ≡ with_gathering None before
-    → AppendsText (GathersOrLoses rules gathering) before old after new
-all_lost rules gathering before after old new all kept reply state = (
-  refusal_line (codes "Memory"),
-  inr (
-    kept,
-    subst (λ b. OnTrue b (AtDesk (LoadsGathered rules Lost) (with_gathering None before) (refusal_line (codes "Memory")) after)
-        × OnFalse b (Keeps [] (with_gathering (Some (lost gathering.left)) before) (refusal_line (codes "Memory")) after)) (sym all) (
-          subst (λ s. AtDesk (LoadsGathered rules Lost) (with_gathering None before) (refusal_line (codes "Memory")) s) (sym state) ((refl, refl), refl),
-          tt {0},
-        ),
-  ),
-  reply,
+-- the last line is taken, and what was read is loaded
+at_last : {S : Type 0} (loader : Loader S) (gathering : Gathering) (before : S) (text : Octets) (after : S) → (gathering.left == 0) ≡ true
+    → LoadsOrRefuses loader (zone_gathered gathering.gathered) (loader.keep None before) text after → Gathers loader gathering before text after
+at_last loader gathering before text after all loads =
+    subst (λ b. OnTrue b (LoadsOrRefuses loader (zone_gathered gathering.gathered) (loader.keep None before) text after)
+    × OnFalse b (Keeps [] (loader.keep (Some gathering) before) text after)) (sym all) (loads, tt {0})
+
+-- all lines are taken, and what was read of them is loaded, or the reply says why there is none
+pub all_taken : {S : Type 0} (loader : Loader S) (gathering : Gathering) (read : Result Zone LoadFault) (before after : S) (old new : Octets)
+    → (gathering.left == 0) ≡ true → Reads gathering.gathered read
+    → AppendsText (LoadsOrRefuses loader read) (loader.keep None before) old after new → AppendsText (GathersOrLoses loader gathering) before old after new
+all_taken loader gathering read before after old new all (inl is) done =
+    (done.0, inl (at_last loader gathering before done.0 after all (subst (λ r. LoadsOrRefuses loader r (loader.keep None before) done.0 after) is done.1)), done.2)
+all_taken loader gathering read before after old new all (inr failed) done = (
+  done.0,
+  inr (failed.0, at_last loader (lost gathering.left) before done.0 after all (subst (λ r. LoadsOrRefuses loader r (loader.keep None before) done.0 after) failed.1 done.1)),
+  done.2,
 )
 
 module _ {D F : Type 0} (rules : DeskRules D F) (before after : D) (old new : Octets) where

@@ -33,8 +33,8 @@ use Rattle.sipl_lines.specs.declared.desk_commands.HoldChange.TheVariants as cha
 use Rattle.sipl_lines.specs.declared.desk_commands.RecordEdit.{RecordEdit}
 use Rattle.sipl_lines.specs.declared.desk_commands.RecordEdit.TheVariants.{Add as AddRecord, Remove as RemoveRecord}
 use Rattle.sipl_lines.specs.Desk.{DeskRules}
-use Rattle.sipl_lines.specs.ReplyText.{counts_line, refusal_line, text_fault_line, HasTargets, answer_text, evidence_text}
-use Rattle.sipl_lines.specs.Requests.{fault_words, ok_words, Request, nothing, unknown, too_long, zone, drop, add, del, find, deps, repair, page, hold, release, clock, call, got, broke, quit}
+use Rattle.sipl_lines.specs.ReplyText.{counts_line, refusal_line, HasTargets, answer_text, evidence_text}
+use Rattle.sipl_lines.specs.Requests.{ok_words, Request, nothing, unknown, too_long, zone, drop, add, del, find, deps, repair, page, hold, release, clock, call, got, broke, quit}
 use Rattle.sipl_lines.specs.declared.command.CommandWord.TheVariants as command
 
 -- this is the reply, and the desk is as it was
@@ -133,15 +133,11 @@ TurnsPage rules before text after = Asks rules pages before text after
 abbrev pub refused_with : Octets → Asked
 refused_with code = refused (refusal_line code)
 
--- a zone's text is loaded; a fault in it is reported with its line
-abbrev pub zone_asked : Result Zone ZoneFault → Asked
-zone_asked (Err fault) = refused (text_fault_line (fault_words command.Zone) fault.line (zone_code fault))
-zone_asked (Ok loaded) =
+-- a zone is loaded
+abbrev pub zone_asked : Zone → Asked
+zone_asked loaded =
     edits (ok_words command.Zone) (length loaded.records ∷ loaded.outside ∷ loaded.repeated ∷ [])
     (Load loaded)
-
-abbrev pub Loads : {D F : Type 0} → DeskRules D F → Result Zone ZoneFault → D → Octets → D → Type 0
-Loads rules read before text after = Asks rules (zone_asked read) before text after
 
 -- the zone of an apex is unloaded
 abbrev pub drop_asked : Result Labels InvalidName → Asked

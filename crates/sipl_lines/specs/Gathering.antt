@@ -1,11 +1,22 @@
--- The lines of a zone's text, which follow its `zone` line and are taken one by one.
-use Rattle.std.specs.Prelude.{◌≡◌, ◌⊎◌, ℕ, ◌-◌, Bool, true, false, [], ◌∷◌, ◌++◌, length, Option, None, Some, option_map, Result, Ok, Err, IsTrue, nat_lt, if◌then◌else◌}
+-- The lines of a zone's text, which follow its `zone` line and are taken one by one, and their zone.
+use Rattle.std.specs.Prelude.{◌≡◌, ◌⊎◌, ℕ, ◌-◌, Bool, true, false, [], ◌∷◌, ◌++◌, length, Option, None, Some, option_map, Result, Ok, Err, IsTrue, nat_lt, if◌then◌else◌, codes, ◌==◌}
+use Rattle.std.specs.Bool.{OnTrue, OnFalse}
 use Rattle.sipl_names.specs.Labels.{Octets, Labels}
 use Rattle.sipl_names.specs.NameText.{name_of}
+use Rattle.sipl_names.specs.InvalidName.{code_of as name_code}
 use Rattle.sipl_names.specs.declared.fault.InvalidName.{InvalidName}
+use Rattle.sipl_masterfile.specs.Zones.{Zone, zone_of}
+use Rattle.sipl_masterfile.specs.ZoneFault.{code_of as zone_code}
+use Rattle.sipl_masterfile.specs.declared.fault.ZoneFault.{ZoneFault}
+use Rattle.sipl_lines.specs.Commands.{Keeps}
+use Rattle.sipl_lines.specs.ReplyText.{refusal_line, text_fault_line}
+use Rattle.sipl_lines.specs.Requests.{fault_words}
+use Rattle.sipl_lines.specs.declared.command.CommandWord.TheVariants as command
 use Rattle.sipl_lines.specs.declared.gather.Gathered.{Gathered}
 use Rattle.sipl_lines.specs.declared.gather.Gathered.TheVariants.{Lines, BadApex, LongLine, Lost}
 use Rattle.sipl_lines.specs.declared.gather.Gathering.{Gathering}
+use Rattle.sipl_lines.specs.declared.gather.LoadFault.{LoadFault}
+use Rattle.sipl_lines.specs.declared.gather.LoadFault.TheVariants.{InApex, LineTooLong, InText, Memory}
 use Rattle.sipl_lines.specs.ZoneLines.{ZoneLines}
 
 -- the zone of an apex, of which no line was taken, and how many octets its lines may have, where there
@@ -82,3 +93,55 @@ keeps_lines Lost = false
 abbrev pub IsOrLost : Bool → Gathering → Gathering → Type 0
 IsOrLost allocates expected gathering =
     (gathering ≡ expected) ⊎ (IsTrue allocates × (gathering ≡ lost expected.left))
+
+-- ---- the zone of the lines
+
+-- the zone of a text, or its fault
+abbrev pub text_read : Result Zone ZoneFault → Result Zone LoadFault
+text_read (Ok loaded) = Ok loaded
+text_read (Err fault) = Err (InText fault)
+
+-- the zone of the lines that were taken, or why there is none: the first of these that applies
+abbrev pub zone_gathered : Gathered → Result Zone LoadFault
+zone_gathered Lost = Err Memory
+zone_gathered LongLine = Err LineTooLong
+zone_gathered (BadApex fault octets_left) = Err (InApex fault)
+zone_gathered (Lines lines octets_left) = text_read (zone_of lines.text lines.apex)
+
+-- this was read of the lines; where there are lines that are kept an allocation may fail
+abbrev pub Reads : Gathered → Result Zone LoadFault → Type 0
+Reads gathered read =
+    (read ≡ zone_gathered gathered) ⊎ (IsTrue (keeps_lines gathered) × (read ≡ Err Memory))
+
+-- the reply where there is no zone; a fault in its text is reported with its line
+abbrev pub load_fault_text : LoadFault → Octets
+load_fault_text (InApex fault) = refusal_line (name_code fault)
+load_fault_text LineTooLong = refusal_line (codes "K2")
+load_fault_text (InText fault) =
+    text_fault_line (fault_words command.Zone) fault.line (zone_code fault)
+load_fault_text Memory = refusal_line (codes "Memory")
+
+-- ---- what loads the zone
+
+-- a state in which zones are loaded: how it keeps a gathering, or none, and what is done with a zone
+pub record Loader (S : Type 0) : Type 1 where
+  pub keep : Option Gathering → S → S
+  pub Loads : Zone → S → Octets → S → Type 0
+
+-- a zone is loaded, or the reply says why there is none
+abbrev pub LoadsOrRefuses : {S : Type 0} → Loader S → Result Zone LoadFault → S → Octets → S → Type 0
+LoadsOrRefuses loader (Ok loaded) before text after = loader.Loads loaded before text after
+LoadsOrRefuses loader (Err fault) before text after = Keeps (load_fault_text fault) before text after
+
+-- while lines are left to be taken there is no reply; it comes with the last of them
+abbrev pub Gathers : {S : Type 0} → Loader S → Gathering → S → Octets → S → Type 0
+Gathers loader gathering before text after =
+    OnTrue (gathering.left == 0)
+    (LoadsOrRefuses loader (zone_gathered gathering.gathered) (loader.keep None before) text after)
+    × OnFalse (gathering.left == 0) (Keeps [] (loader.keep (Some gathering) before) text after)
+
+-- lines are taken; where an allocation fails they are lost
+abbrev pub GathersOrLoses : {S : Type 0} → Loader S → Gathering → S → Octets → S → Type 0
+GathersOrLoses loader gathering before text after =
+    Gathers loader gathering before text after
+    ⊎ (IsTrue (keeps_lines gathering.gathered) × Gathers loader (lost gathering.left) before text after)

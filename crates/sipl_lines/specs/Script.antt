@@ -1,11 +1,6 @@
 -- A script: what each of its lines does, and the replies.
-use Rattle.std.specs.Prelude.{◌≡◌, ◌⊎◌, ℕ, Bool, true, false, [], replicate, Option, None, Some, Result, Ok, Err, codes, IsTrue, ◌==◌}
-use Rattle.std.specs.Bool.{OnTrue, OnFalse}
+use Rattle.std.specs.Prelude.{◌≡◌, ◌⊎◌, ℕ, Bool, true, false, [], replicate, Option, None, Some, Result, Ok, Err, codes}
 use Rattle.sipl_names.specs.Labels.{Octets}
-use Rattle.sipl_names.specs.InvalidName.{code_of as name_code}
-use Rattle.sipl_masterfile.specs.Zones.{Zone, zone_of}
-use Rattle.sipl_masterfile.specs.ZoneFault.{code_of as zone_code}
-use Rattle.sipl_masterfile.specs.declared.fault.ZoneFault.{ZoneFault}
 use Rattle.sipl_book.specs.Book.{new_book}
 use Rattle.sipl_book.specs.declared.edit.Edit.TheVariants.{Load}
 use Rattle.sipl_interleave.specs.Steps.{IsStep}
@@ -14,11 +9,11 @@ use Rattle.sipl_interleave.specs.declared.reply.Reply.{Reply}
 use Rattle.sipl_interleave.specs.declared.step.Step.{Step}
 use Rattle.sipl_interleave.specs.declared.step.Step.TheVariants.{Change}
 use Rattle.sipl_lines.specs.Commands.{Keeps, Refuses, Fails}
-use Rattle.sipl_lines.specs.Gathering.{gathering_of, after_line, at_end, lost, keeps_lines}
+use Rattle.sipl_lines.specs.Gathering.{Gathers, GathersOrLoses, Loader, gathering_of, after_line, at_end, lost}
 use Rattle.sipl_lines.specs.Items.{Item, line, end_of_input}
 use Rattle.sipl_lines.specs.Protocol.{Protocol}
-use Rattle.sipl_lines.specs.ReplyText.{refusal_line, text_fault_line}
-use Rattle.sipl_lines.specs.Requests.{Request, nothing, zone, fault_words}
+use Rattle.sipl_lines.specs.ReplyText.{refusal_line}
+use Rattle.sipl_lines.specs.Requests.{Request, nothing, zone}
 use Rattle.sipl_lines.specs.ScriptLines.{ScriptRequest, session, script_request_of, workers_in}
 use Rattle.sipl_lines.specs.ScriptSteps.{ValueOrCode, MayFail, step_of}
 use Rattle.sipl_lines.specs.ScriptText.{Shows, shown_of}
@@ -28,13 +23,10 @@ use Rattle.sipl_lines.specs.declared.server.Ended.{Ended as Ending}
 use Rattle.sipl_lines.specs.declared.server.ServeFault.{ServeFault}
 use Rattle.sipl_lines.specs.declared.tapped.Tapped.{Tapped}
 use Rattle.sipl_lines.specs.declared.settings.Settings.{Settings}
-use Rattle.sipl_lines.specs.declared.gather.Gathered.{Gathered}
-use Rattle.sipl_lines.specs.declared.gather.Gathered.TheVariants.{Lines, BadApex, LongLine, Lost}
 use Rattle.sipl_lines.specs.declared.gather.Gathering.{Gathering}
 use Rattle.sipl_lines.specs.declared.play.Play.{Play}
 use Rattle.sipl_lines.specs.declared.script.Script.{Script}
 use Rattle.sipl_lines.specs.declared.script.Script.TheVariants.{Waiting, Playing, Ended}
-use Rattle.sipl_lines.specs.declared.command.CommandWord.TheVariants as command
 
 -- ---- once there is a world
 
@@ -48,38 +40,18 @@ abbrev pub MakesOrRefuses : ValueOrCode Step → WorldState → Octets → World
 MakesOrRefuses (Ok step) before text after = Makes step before text after
 MakesOrRefuses (Err code) before text after = Refuses code before text after
 
--- a zone's text is loaded; a fault in it is reported with its line
-abbrev pub LoadsText : Result Zone ZoneFault → WorldState → Octets → WorldState → Type 0
-LoadsText (Ok loaded) before text after = Makes (Change (Load loaded)) before text after
-LoadsText (Err fault) before text after =
-    Keeps (text_fault_line (fault_words command.Zone) fault.line (zone_code fault)) before text after
-
--- `zone APEX COUNT`, once its lines are taken: the first of these that applies is reported
-abbrev pub Loads : Gathered → WorldState → Octets → WorldState → Type 0
-Loads Lost before text after = Fails before text after
-Loads LongLine before text after = Refuses (codes "K2") before text after
-Loads (BadApex fault octets_left) before text after = Refuses (name_code fault) before text after
-Loads (Lines lines octets_left) before text after =
-    LoadsText (zone_of lines.text lines.apex) before text after ⊎ Fails before text after
-
 -- what happens in the world; all else is as it was
 abbrev pub InWorld : (WorldState → Octets → WorldState → Type 0) → Play → Octets → Play → Type 0
 InWorld Acts before text after =
     Acts before.world text after.world × (after ≡ record before { world = after.world })
 
--- while lines are left to be taken there is no reply; it comes with the last of them
-abbrev pub Gathers : Gathering → Play → Octets → Play → Type 0
-Gathers gathering before text after =
-    OnTrue (gathering.left == 0)
-    (InWorld (Loads gathering.gathered) (record before { gathering = None }) text after)
-    × OnFalse (gathering.left == 0)
-    (Keeps [] (record before { gathering = Some gathering }) text after)
-
--- lines are taken; where an allocation fails they are lost
-abbrev pub GathersOrLoses : Gathering → Play → Octets → Play → Type 0
-GathersOrLoses gathering before text after =
-    Gathers gathering before text after
-    ⊎ (IsTrue (keeps_lines gathering.gathered) × Gathers (lost gathering.left) before text after)
+-- the zones whose lines a play takes are loaded by a step
+abbrev pub play_loader : Loader Play
+play_loader =
+    record {
+      keep = λ gathering play. record play { gathering = gathering };
+      Loads = λ loaded. InWorld (Makes (Change (Load loaded)));
+    }
 
 -- the step of a request is made, or its line is refused; where an allocation for its fields fails,
 -- nothing happens
@@ -92,7 +64,8 @@ MakesStepOf request before text after =
 abbrev pub ObeysSession : Request → Play → Octets → Play → Type 0
 ObeysSession nothing before text after = Keeps [] before text after
 ObeysSession (zone apex lines) before text after =
-    Gathers (gathering_of apex lines None) before text after ⊎ Gathers (lost lines) before text after
+    Gathers play_loader (gathering_of apex lines None) before text after
+    ⊎ Gathers play_loader (lost lines) before text after
 ObeysSession request before text after = MakesStepOf (session request) before text after
 
 -- what a request does
@@ -104,12 +77,13 @@ Obeys request before text after = MakesStepOf request before text after
 abbrev pub PlaysLine : Option Gathering → Octets → Play → Octets → Play → Type 0
 PlaysLine None octets before text after = Obeys (script_request_of octets) before text after
 PlaysLine (Some gathering) octets before text after =
-    GathersOrLoses (after_line octets gathering) before text after
+    GathersOrLoses play_loader (after_line octets gathering) before text after
 
 -- what the end of the input does: a zone whose lines are being taken has its reply
 abbrev pub PlaysEnd : Option Gathering → Play → Octets → Play → Type 0
 PlaysEnd None before text after = Keeps [] before text after
-PlaysEnd (Some gathering) before text after = GathersOrLoses (at_end gathering) before text after
+PlaysEnd (Some gathering) before text after =
+    GathersOrLoses play_loader (at_end gathering) before text after
 
 abbrev pub PlaysItem : Item → Play → Octets → Play → Type 0
 PlaysItem (line octets) before text after = PlaysLine before.gathering octets before text after

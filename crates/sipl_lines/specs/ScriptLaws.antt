@@ -4,6 +4,7 @@ use Rattle.std.specs.Prelude.{Option, None, Some}
 use Rattle.std.proofs.lemmas.Bool.{false≢true, lt-ltb}
 use Rattle.sipl_records.specs.Fields.{fields_of}
 use Rattle.sipl_names.specs.Labels.{Octets}
+use Rattle.sipl_lines.specs.Gathering.{GathersOrLoses}
 use Rattle.sipl_lines.specs.Items.{Item, line}
 use Rattle.sipl_lines.specs.Protocol.{IsLineProtocol}
 use Rattle.sipl_lines.specs.Requests.{request_of, too_long}
@@ -12,7 +13,7 @@ use Rattle.sipl_lines.specs.declared.gather.Gathering.{Gathering}
 use Rattle.sipl_lines.specs.declared.play.Play.{Play}
 use Rattle.sipl_lines.specs.declared.script.Script.{Script}
 use Rattle.sipl_lines.specs.declared.script.Script.TheVariants.{Waiting, Playing, Ended}
-use Rattle.sipl_lines.specs.Script.{Begins, GathersOrLoses, Obeys, PlaysLine, MayReply, has_ended, script_protocol}
+use Rattle.sipl_lines.specs.Script.{Begins, Obeys, PlaysLine, MayReply, has_ended, play_loader, script_protocol}
 use Rattle.sipl_lines.specs.ScriptLines.{session, fields_step_request, script_request_of, workers_in, workers_of}
 
 -- once a script has ended an item has no reply
@@ -32,7 +33,7 @@ plays_line-long : (gathering : Option Gathering) (a b text : Octets) (s u : Play
 plays_line-long None a b text s u long long' plays =
     subst (λ r. Obeys r s text u) (script_request_of-long a long ∙ sym (script_request_of-long b long')) plays
 plays_line-long (Some gathering) a b text s u long long' plays =
-    subst (λ gathered. GathersOrLoses (record { left = gathering.left - 1; gathered = gathered }) s text u)
+    subst (λ gathered. GathersOrLoses play_loader (record { left = gathering.left - 1; gathered = gathered }) s text u)
     (gathered_after-long a gathering.gathered long ∙ sym (gathered_after-long b gathering.gathered long')) plays
 
 -- two lines that are too long have the same replies

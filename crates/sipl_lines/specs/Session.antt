@@ -1,19 +1,15 @@
 -- A session: what each of its lines does, and the replies.
-use Rattle.std.specs.Prelude.{◌≡◌, ◌⊎◌, ◌≤◌, ℕ, Bool, true, false, [], ◌++◌, Option, None, Some, Result, OnOk, OnErr, Vec, vec_capacity, codes, IsTrue, ◌==◌}
+use Rattle.std.specs.Prelude.{◌≡◌, ◌⊎◌, ◌≤◌, ℕ, Bool, true, false, [], ◌++◌, Option, None, Some, Result, OnOk, OnErr, Vec, vec_capacity, IsTrue}
 use Rattle.std.specs.Bool.{OnTrue, OnFalse}
 use Rattle.sipl_names.specs.Labels.{Octets}
-use Rattle.sipl_names.specs.InvalidName.{code_of as name_code}
-use Rattle.sipl_masterfile.specs.Zones.{zone_of}
 use Rattle.sipl_failover.specs.FailoverRun.{FailoverRun}
-use Rattle.sipl_lines.specs.Commands.{Keeps, Fails, Asked, Asks, refused_with, zone_asked, Act, says, takes_zone, asks, in_call, quits, task_of}
+use Rattle.sipl_lines.specs.Commands.{Keeps, Fails, Asks, zone_asked, Act, says, takes_zone, asks, in_call, quits, task_of}
 use Rattle.sipl_lines.specs.Calls.{DoesInCall, CallDesk, with_call}
 use Rattle.sipl_lines.specs.Desk.{DeskRules}
 use Rattle.sipl_lines.specs.Items.{Item, line, end_of_input}
 use Rattle.sipl_lines.specs.Protocol.{Protocol}
 use Rattle.sipl_lines.specs.Requests.{Request, request_of}
-use Rattle.sipl_lines.specs.Gathering.{gathering_of, after_line, at_end, lost, keeps_lines}
-use Rattle.sipl_lines.specs.declared.gather.Gathered.{Gathered}
-use Rattle.sipl_lines.specs.declared.gather.Gathered.TheVariants.{Lines, BadApex, LongLine, Lost}
+use Rattle.sipl_lines.specs.Gathering.{Gathers, GathersOrLoses, Loader, gathering_of, after_line, at_end, lost}
 use Rattle.sipl_lines.specs.declared.gather.Gathering.{Gathering}
 use Rattle.sipl_lines.specs.declared.session.Session.{Session}
 
@@ -60,39 +56,19 @@ AtCall Acts before text after =
     Acts (with_call before.desk before.call) text (with_call after.desk after.call)
     × (after ≡ record before { desk = after.desk; call = after.call })
 
--- what the lines that were taken for a zone ask for: the first of these that applies is reported
-abbrev pub gathered_asked : Gathered → Asked
-gathered_asked Lost = refused_with (codes "Memory")
-gathered_asked LongLine = refused_with (codes "K2")
-gathered_asked (BadApex fault octets_left) = refused_with (name_code fault)
-gathered_asked (Lines lines octets_left) = zone_asked (zone_of lines.text lines.apex)
-
--- `zone APEX COUNT`, once its lines are taken
-abbrev pub LoadsGathered : {D F : Type 0} → DeskRules D F → Gathered → D → Octets → D → Type 0
-LoadsGathered rules gathered before text after = Asks rules (gathered_asked gathered) before text after
-
--- while lines are left to be taken there is no reply; it comes with the last of them
-abbrev pub Gathers : {D F : Type 0} → DeskRules D F → Gathering → SessionState D → Octets
-    → SessionState D → Type 0
-Gathers rules gathering before text after =
-    OnTrue (gathering.left == 0)
-    (AtDesk (LoadsGathered rules gathering.gathered) (with_gathering None before) text after)
-    × OnFalse (gathering.left == 0) (Keeps [] (with_gathering (Some gathering) before) text after)
-
--- lines are taken; where an allocation fails they are lost
-abbrev pub GathersOrLoses : {D F : Type 0} → DeskRules D F → Gathering → SessionState D → Octets
-    → SessionState D → Type 0
-GathersOrLoses rules gathering before text after =
-    Gathers rules gathering before text after
-    ⊎ (IsTrue (keeps_lines gathering.gathered) × Gathers rules (lost gathering.left) before text after)
+-- the desk loads the zones whose lines a session takes
+abbrev pub session_loader : {D F : Type 0} → DeskRules D F → Loader (SessionState D)
+session_loader rules =
+    record { keep = with_gathering; Loads = λ loaded. AtDesk (Asks rules (zone_asked loaded)) }
 
 -- what an act does
 abbrev pub DoesAct : {D F : Type 0} → DeskRules D F → Act → SessionState D → Octets → SessionState D
     → Type 0
 DoesAct rules (says reply) before text after = Keeps reply before text after
 DoesAct rules (takes_zone apex lines) before text after =
-    Gathers rules (gathering_of apex lines (rules.zone_octets before.desk)) before text after
-    ⊎ Gathers rules (lost lines) before text after
+    Gathers (session_loader rules) (gathering_of apex lines (rules.zone_octets before.desk)) before text
+    after
+    ⊎ Gathers (session_loader rules) (lost lines) before text after
 DoesAct rules (asks asked) before text after = AtDesk (Asks rules asked) before text after
 DoesAct rules (in_call act) before text after = AtCall (DoesInCall rules act) before text after
 DoesAct rules (quits reply) before text after = (text ≡ reply) × (after ≡ record before { ended = true })
@@ -117,14 +93,14 @@ abbrev pub TakesLine : {D F : Type 0} → DeskRules D F → Option Gathering →
     → Octets → SessionState D → Type 0
 TakesLine rules None octets before text after = Obeys rules (request_of octets) before text after
 TakesLine rules (Some gathering) octets before text after =
-    GathersOrLoses rules (after_line octets gathering) before text after
+    GathersOrLoses (session_loader rules) (after_line octets gathering) before text after
 
 -- what the end of the input does: a zone whose lines are being taken has its reply
 abbrev pub TakesEnd : {D F : Type 0} → DeskRules D F → Option Gathering → SessionState D → Octets
     → SessionState D → Type 0
 TakesEnd rules None before text after = Keeps [] before text after
 TakesEnd rules (Some gathering) before text after =
-    GathersOrLoses rules (at_end gathering) before text after
+    GathersOrLoses (session_loader rules) (at_end gathering) before text after
 
 -- what an item does in a session that has not ended
 abbrev pub TakesItem : {D F : Type 0} → DeskRules D F → Item → SessionState D → Octets

@@ -10,10 +10,10 @@ use Rattle.sipl_lines.specs.Desk.{DeskRules}
 use Rattle.sipl_lines.specs.Items.{Item, line}
 use Rattle.sipl_lines.specs.Protocol.{IsLineProtocol}
 use Rattle.sipl_lines.specs.Requests.{nothing, too_long, is_comment, fields_request, request_of}
-use Rattle.sipl_lines.specs.Gathering.{gathered_after, after_long_line, after_short_line}
+use Rattle.sipl_lines.specs.Gathering.{GathersOrLoses, gathered_after, after_long_line, after_short_line}
 use Rattle.sipl_lines.specs.declared.gather.Gathered.{Gathered}
 use Rattle.sipl_lines.specs.declared.gather.Gathering.{Gathering}
-use Rattle.sipl_lines.specs.Session.{SessionState, Obeys, GathersOrLoses, TakesLine, TakesItem, MayPause, MayReply, session_protocol}
+use Rattle.sipl_lines.specs.Session.{SessionState, Obeys, TakesLine, TakesItem, MayPause, MayReply, session_loader, session_protocol}
 
 -- once a session has ended an item has no reply
 ended_silent : {D F : Type 0} (rules : DeskRules D F) (s : SessionState D) (item : Item) → s.ended ≡ true → MayReply rules s item [] s
@@ -33,7 +33,7 @@ takes_line-long : {D F : Type 0} (rules : DeskRules D F) (gathering : Option Gat
 takes_line-long rules None a b text s u long long' takes =
     subst (λ r. OnFalse s.ended (Obeys rules r s text u)) (request_of-long a long ∙ sym (request_of-long b long')) takes
 takes_line-long rules (Some gathering) a b text s u long long' takes =
-    subst (λ gathered. OnFalse s.ended (GathersOrLoses rules (record { left = gathering.left - 1; gathered = gathered }) s text u))
+    subst (λ gathered. OnFalse s.ended (GathersOrLoses (session_loader rules) (record { left = gathering.left - 1; gathered = gathered }) s text u))
     (gathered_after-long a gathering.gathered long ∙ sym (gathered_after-long b gathering.gathered long')) takes
 
 -- two lines that are too long have the same replies

@@ -1,25 +1,21 @@
 // What each command asks of a desk, and its reply.
 ghost use Rattle.std.specs.Prelude.{◌≡◌, ◌⊎◌, ◌+◌, ◌≤◌, [], ◌++◌, Ok, Err, length, codes, IfOk, IfErr, IsTrue, OnErr, vec_len, vec_capacity};
 ghost use Rattle.sipl_masterfile.specs.RecordText.{record_of};
-ghost use Rattle.sipl_masterfile.specs.Zones.{zone_of};
 ghost use Rattle.sipl_names.specs.NameFault.{IfInvalid};
 ghost use Rattle.sipl_names.specs.NameText.{name_of};
 ghost use Rattle.sipl_uri.specs.Uris.{has_scheme_and_octets, question_of};
 ghost use Rattle.sipl_lines.specs.Requests.{ok_words};
-ghost use Rattle.sipl_lines.specs.Commands.{AnswersUri, ChangesHold, Edits, EditsRecord, ListsUri, Loads, Repairs, TurnsPage, Unloads, handed_text, result_text};
+ghost use Rattle.sipl_lines.specs.Commands.{AnswersUri, Asks, ChangesHold, Edits, EditsRecord, ListsUri, Repairs, TurnsPage, Unloads, handed_text, result_text, zone_asked};
 ghost use Rattle.sipl_lines.specs.ReplyText.{HasTargets, counts_line, evidence_text, refusal_line};
 ghost use Rattle.sipl_lines.specs.Session.{AppendsText, Replies};
 
 use crate::command::CommandWord;
 use crate::desk::{Desk, MAX_REFUSAL_LEN};
-use crate::gather::ZoneLines;
-use crate::reply::{
-    write_answer, write_done, write_evidence, write_page, write_refusal, write_text_fault,
-};
+use crate::reply::{write_answer, write_done, write_evidence, write_page, write_refusal};
 use sipl_book::{Edit, Handed};
 use sipl_choice::Endpoint;
 use sipl_evidence::Evidence;
-use sipl_masterfile::{ZoneFault, read_record, read_zone};
+use sipl_masterfile::{ZoneFault, ZoneText, read_record};
 use sipl_names::{Name, NameFault};
 use sipl_records::{AddressFault, Record};
 use sipl_srv::{Draws, DrawsFault};
@@ -31,33 +27,16 @@ use std::alloc::{AllocError, Global};
 // command.
 pub(crate) const MAX_SHORT_REPLY_LEN: usize = 1_552;
 
-// Loads the zone of a text, and appends the reply. The text is dropped as soon as it is read, so that
-// it allocates nothing but the loaded zone.
-pub(crate) fn load_zone<D: Desk>(
-    alloc: Global,
-    desk: &mut D,
-    zone: ZoneLines,
-    out: &mut Vec<u8>,
-) -> Result<(), AllocError>
+// Loads a zone, and appends the reply.
+pub(crate) fn load_zone<D: Desk>(desk: &mut D, zone: ZoneText, out: &mut Vec<u8>)
     requires space { vec_len out.old + MAX_SHORT_REPLY_LEN ≤ vec_capacity out.old }
-    ensures { Replies (Loads D.rules (zone_of zone.text zone.apex))
-        desk.old out.old result desk.new out.new }
+    ensures done { AppendsText (Asks D.rules (zone_asked zone))
+        desk.old out.old.items desk.new out.new.items }
+    ensures capacity { vec_capacity out.old ≤ vec_capacity out.new }
 {
-    let read = read_zone(alloc, zone.text(), zone.apex());
-    drop(zone);
-    let text = match read {
-        Ok(text) => text,
-        Err(fault) if fault.is_memory() => return Err(AllocError),
-        Err(fault) => return write_text_fault(
-            out,
-            CommandWord::Zone.fault_words(),
-            fault.line,
-            fault.code(),
-        ),
-    };
-    let records = text.records().len() as u64;
-    let counts = [records, text.outside(), text.repeated()];
-    match desk.change(Edit::Load(text)) {
+    let records = zone.records().len() as u64;
+    let counts = [records, zone.outside(), zone.repeated()];
+    match desk.change(Edit::Load(zone)) {
         Ok(done) => {
             let [records, outside, repeated] = counts;
             write_done(
@@ -68,7 +47,6 @@ pub(crate) fn load_zone<D: Desk>(
         }
         Err(fault) => D::write_fault(fault, out),
     }
-    Ok(())
 }
 
 // `drop APEX`: unloads a zone, and appends the reply.

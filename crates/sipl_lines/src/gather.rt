@@ -1,8 +1,11 @@
 // The lines of a zone's text, which follow its `zone` line and are taken one by one.
-ghost use Rattle.std.specs.Prelude.{◌≡◌, ◌⊎◌, ◌==◌, IsTrue, OnOk, OnErr, true};
-ghost use Rattle.sipl_lines.specs.Gathering.{IsOrLost, gathering_of, after_line, exceeds, gathered_after, at_end, octets_after, with_line, keeps_lines};
+ghost use Rattle.std.specs.Prelude.{◌≡◌, ◌⊎◌, ◌+◌, ◌≤◌, ◌++◌, ◌==◌, IsTrue, OnOk, OnErr, true, vec_len, vec_capacity};
+ghost use Rattle.sipl_lines.specs.Gathering.{IsOrLost, Reads, gathering_of, after_line, exceeds, gathered_after, at_end, load_fault_text, octets_after, with_line, keeps_lines};
 
-use crate::command::MAX_LINE_LEN;
+use crate::command::{CommandWord, MAX_LINE_LEN};
+use crate::desk::MAX_REFUSAL_LEN;
+use crate::reply::{write_refusal, write_text_fault};
+use sipl_masterfile::{ZoneFault, ZoneText, read_zone};
 use sipl_names::{InvalidName, Name, NameFault};
 use std::alloc::{AllocError, Global};
 use std::marker::Model;
@@ -35,6 +38,19 @@ pub(crate) enum Gathered {
     Lost,
 }
 
+// Why there is no zone of the lines that were taken.
+#[derive(Clone, Copy)]
+pub(crate) enum LoadFault {
+    // The apex is not a name.
+    InApex(InvalidName),
+    // A line has more octets than one may have, or the lines have more than all may: K2.
+    LineTooLong,
+    // The first fault of the text.
+    InText(ZoneFault),
+    // An allocation failed.
+    Memory,
+}
+
 // The lines that a `zone` command takes: how many are left, and what the others gave.
 #[derive(Drop)]
 pub(crate) struct Gathering {
@@ -43,20 +59,6 @@ pub(crate) struct Gathering {
 }
 
 impl ZoneLines {
-    // The zone's name.
-    pub(crate) fn apex(&self) -> &Name
-        ensures { result.now ≡ self.now.apex }
-    {
-        &self.apex
-    }
-
-    // The lines that were taken, each followed by LF.
-    pub(crate) fn text(&self) -> &[u8]
-        ensures { result.now ≡ self.now.text }
-    {
-        &self.text
-    }
-
     // Adds a line. An error says that an allocation failed: then nothing has changed.
     fn push(&mut self, line: &[u8]) -> Result<(), AllocError>
         ensures ok { OnOk result (self.new ≡ with_line line.now self.old) }
@@ -156,10 +158,40 @@ impl Gathering {
         self.left == 0
     }
 
-    // What was gathered.
-    pub(crate) fn into_gathered(self) -> Gathered
-        ensures { result ≡ self.gathered }
+    // The zone of the lines that were taken, or why there is none. The text is dropped as soon as it
+    // is read, so that a load allocates nothing but the zone.
+    pub(crate) fn read(self, alloc: Global) -> Result<ZoneText, LoadFault>
+        ensures { Reads self.gathered result }
     {
-        self.gathered
+        match self.gathered {
+            Gathered::Lines(lines, _) => match read_zone(alloc, &lines.text, &lines.apex) {
+                Ok(zone) => Ok(zone),
+                Err(fault) if fault.is_memory() => Err(LoadFault::Memory),
+                Err(fault) => Err(LoadFault::InText(fault)),
+            },
+            Gathered::BadApex(fault, _) => Err(LoadFault::InApex(fault)),
+            Gathered::LongLine => Err(LoadFault::LineTooLong),
+            Gathered::Lost => Err(LoadFault::Memory),
+        }
+    }
+}
+
+// Appends why there is no zone to space that is reserved.
+pub(crate) fn write_load_fault(fault: LoadFault, out: &mut Vec<u8>)
+    requires space { vec_len out.old + MAX_REFUSAL_LEN ≤ vec_capacity out.old }
+    ensures text { out.new.items ≡ out.old.items ++ load_fault_text fault }
+    ensures capacity { vec_capacity out.old ≤ vec_capacity out.new }
+{
+    match fault {
+        LoadFault::InApex(fault) => write_refusal(out, fault.code()).unwrap(),
+        LoadFault::LineTooLong => write_refusal(out, "K2").unwrap(),
+        LoadFault::InText(fault) => write_text_fault(
+            out,
+            CommandWord::Zone.fault_words(),
+            fault.line,
+            fault.code(),
+        )
+        .unwrap(),
+        LoadFault::Memory => write_refusal(out, "Memory").unwrap(),
     }
 }

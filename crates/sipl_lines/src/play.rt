@@ -1,20 +1,20 @@
 //! A script once its first line has made the world: each line is a step.
 ghost use Rattle.std.specs.Prelude.{◌≡◌, ◌+◌, ◌≤◌, None, OnOk, OnErr, vec_len, vec_capacity};
+ghost use Rattle.sipl_lines.specs.Gathering.{GathersOrLoses};
 ghost use Rattle.sipl_lines.specs.Items.{Item};
-ghost use Rattle.sipl_lines.specs.Script.{GathersOrLoses, InWorld, Loads, Makes, MakesStepOf, Obeys, PlaysItem};
+ghost use Rattle.sipl_lines.specs.Script.{InWorld, Makes, MakesStepOf, Obeys, PlaysItem, play_loader};
 ghost use Rattle.sipl_lines.specs.ScriptLines.{script_request_of};
 ghost use Rattle.sipl_lines.specs.ScriptMeaning.{meaning_of_line};
 ghost use Rattle.sipl_lines.specs.Session.{AppendsText};
 
-use crate::command::{Command, CommandWord};
-use crate::gather::{Gathered, Gathering};
-use crate::reply::{write_refusal, write_text_fault};
+use crate::command::Command;
+use crate::gather::{Gathering, write_load_fault};
+use crate::reply::write_refusal;
 use crate::script_line::{ScriptLine, read_script_line};
 use crate::script_reply::{MAX_SCRIPT_REPLY_LEN, Shown, write_reply};
 use crate::script_step::read_step;
 use sipl_book::Edit;
 use sipl_interleave::{Step, World};
-use sipl_masterfile::read_zone;
 use std::alloc::{AllocError, Global};
 
 /// The world of a script, and the zone whose lines are being taken.
@@ -110,38 +110,18 @@ impl Play {
     // Takes more lines for a zone, or, where all are taken, loads it and appends the reply.
     fn gather(&mut self, alloc: Global, gathering: Gathering, out: &mut Vec<u8>)
         requires { vec_len out.old + MAX_SCRIPT_REPLY_LEN ≤ vec_capacity out.old }
-        ensures { AppendsText (GathersOrLoses gathering)
+        ensures { AppendsText (GathersOrLoses play_loader gathering)
             self.old out.old.items self.new out.new.items }
     {
-        if gathering.is_complete() {
-            self.gathering = None;
-            load_gathered(alloc, &mut self.world, gathering.into_gathered(), out);
-        } else {
+        if !gathering.is_complete() {
             self.gathering = Some(gathering);
+            return;
         }
-    }
-}
-
-// Loads the zone whose lines were taken, and appends the reply.
-fn load_gathered(alloc: Global, world: &mut World, gathered: Gathered, out: &mut Vec<u8>)
-    requires { vec_len out.old + MAX_SCRIPT_REPLY_LEN ≤ vec_capacity out.old }
-    ensures { AppendsText (Loads gathered) world.old out.old.items world.new out.new.items }
-{
-    match gathered {
-        Gathered::Lines(zone, _) => match read_zone(alloc, zone.text(), zone.apex()) {
-            Ok(text) => make_step(world, Step::Change(Edit::Load(text)), out),
-            Err(fault) if fault.is_memory() => write_refusal(out, "Memory").unwrap(),
-            Err(fault) => write_text_fault(
-                out,
-                CommandWord::Zone.fault_words(),
-                fault.line,
-                fault.code(),
-            )
-            .unwrap(),
-        },
-        Gathered::BadApex(fault, _) => write_refusal(out, fault.code()).unwrap(),
-        Gathered::LongLine => write_refusal(out, "K2").unwrap(),
-        Gathered::Lost => write_refusal(out, "Memory").unwrap(),
+        self.gathering = None;
+        match gathering.read(alloc) {
+            Ok(zone) => make_step(&mut self.world, Step::Change(Edit::Load(zone)), out),
+            Err(fault) => write_load_fault(fault, out),
+        }
     }
 }
 

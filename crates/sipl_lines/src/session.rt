@@ -1,9 +1,9 @@
-ghost use Rattle.std.specs.Prelude.{◌≡◌, ◌+◌, ◌≤◌, [], OnOk, OnErr, None, false, true, IsTrue, vec_len, vec_capacity};
-ghost use Rattle.sipl_lines.specs.Gathering.{keeps_lines};
+ghost use Rattle.std.specs.Prelude.{◌≡◌, ◌+◌, ◌≤◌, [], OnOk, OnErr, None, false, true, vec_len, vec_capacity};
+ghost use Rattle.sipl_lines.specs.Gathering.{GathersOrLoses};
 ghost use Rattle.sipl_lines.specs.Items.{Item};
 ghost use Rattle.sipl_lines.specs.Replies.{AppendsReply};
 ghost use Rattle.sipl_lines.specs.Requests.{meaning_of};
-ghost use Rattle.sipl_lines.specs.Session.{AppendsText, GathersOrLoses, LoadsGathered, MayFail, Obeys, Performs, Replies, at_desk, session_protocol};
+ghost use Rattle.sipl_lines.specs.Session.{AppendsText, MayFail, Obeys, Performs, Replies, at_desk, session_loader, session_protocol};
 
 use crate::calls::{hear_failure, hear_response, open_call, set_clock};
 use crate::command::{Command, CommandWord, read_command};
@@ -12,7 +12,7 @@ use crate::desk_commands::{
     HoldChange, MAX_SHORT_REPLY_LEN, RecordEdit, change_hold, edit_record, find, list_evidence,
     load_zone, repair, turn_page, unload_zone,
 };
-use crate::gather::{Gathered, Gathering};
+use crate::gather::{Gathering, write_load_fault};
 use crate::reply::{write_done, write_refusal};
 use sipl_failover::Failover;
 use std::alloc::{AllocError, Global};
@@ -201,8 +201,8 @@ impl Session {
         out: &mut Vec<u8>,
     )
         requires { vec_len out.old + MAX_SHORT_REPLY_LEN ≤ vec_capacity out.old }
-        ensures done { AppendsText (GathersOrLoses D.rules gathering) (at_desk desk.old self.old)
-            out.old.items (at_desk desk.new self.new) out.new.items }
+        ensures done { AppendsText (GathersOrLoses (session_loader D.rules) gathering)
+            (at_desk desk.old self.old) out.old.items (at_desk desk.new self.new) out.new.items }
         ensures capacity { vec_capacity out.old ≤ vec_capacity out.new }
     {
         if !gathering.is_complete() {
@@ -210,28 +210,9 @@ impl Session {
             return;
         }
         self.gathering = None;
-        if load_gathered(alloc, desk, gathering.into_gathered(), out).is_err() {
-            write_refusal(out, "Memory").unwrap();
+        match gathering.read(alloc) {
+            Ok(zone) => load_zone(desk, zone, out),
+            Err(fault) => write_load_fault(fault, out),
         }
-    }
-}
-
-// Loads the zone whose lines were taken, and appends the reply.
-fn load_gathered<D: Desk>(
-    alloc: Global,
-    desk: &mut D,
-    gathered: Gathered,
-    out: &mut Vec<u8>,
-) -> Result<(), AllocError>
-    requires { vec_len out.old + MAX_SHORT_REPLY_LEN ≤ vec_capacity out.old }
-    ensures replies { Replies (LoadsGathered D.rules gathered)
-        desk.old out.old result desk.new out.new }
-    ensures allocates { OnErr result (IsTrue (keeps_lines gathered)) }
-{
-    match gathered {
-        Gathered::Lines(zone, _) => load_zone(alloc, desk, zone, out),
-        Gathered::BadApex(fault, _) => write_refusal(out, fault.code()),
-        Gathered::LongLine => write_refusal(out, "K2"),
-        Gathered::Lost => write_refusal(out, "Memory"),
     }
 }

@@ -1,23 +1,20 @@
-use Rattle.std.proofs.Common.{◌≡◌, ◌++◌, ◌==◌, true, is_err, codes, rules, ap, subst}
-use Rattle.std.specs.Prelude.{IsTrue, None}
-use Rattle.sipl_lines.specs.Gathering.{keeps_lines}
-use Rattle.sipl_lines.specs.ReplyText.{refusal_line}
-use Rattle.sipl_lines.specs.Session.{at_desk, with_desk, with_gathering}
-use Rattle.sipl_lines.specs.declared.gather.Gathered.{Gathered}
-use Rattle.sipl_lines.proofs.Results.{at_error}
-use Rattle.sipl_lines.proofs.Steps.{all_lost}
+use Rattle.std.proofs.Common.{◌≡◌, ◌==◌, true, Ok, Err, None, refl, rules}
+use Rattle.sipl_lines.specs.Gathering.{load_fault_text}
+use Rattle.sipl_lines.specs.Session.{at_desk, session_loader, with_desk, with_gathering}
+use Rattle.sipl_lines.proofs.Steps.{all_taken}
 use Rattle.sipl_lines.proofs.session.Session.gather.Goals as goal
 
-pub returns-then-is_err-clause-done : goal.returns-then-is_err-clause-done
-returns-then-is_err-clause-done g c =
+pub returns-in-Ok-clause-done : goal.returns-in-Ok-clause-done
+returns-in-Ok-clause-done g c =
     let before = at_desk c.args.desk.now c.args.self.now in
-    let failed : is_err c.load_gathered.result ≡ true = search rules in
-    let same : c.load_gathered.new.desk ≡ c.args.desk.now =
-    at_error c.load_gathered.result (c.load_gathered.new.desk ≡ c.args.desk.now) failed c.load_gathered.ensures.replies.unchanged in
-    let reply : c.write_refusal.new.out.items ≡ c.args.out.now.items ++ refusal_line (codes "Memory") = search rules in
     let all : (c.args.gathering.left == 0) ≡ true = search rules in
-    let kept : IsTrue (keeps_lines c.args.gathering.gathered) =
-    subst (λ (g : Gathered). IsTrue (keeps_lines g)) c.into_gathered.ensures
-    (at_error c.load_gathered.result _ failed c.load_gathered.ensures.allocates) in
-    all_lost g.D.Desk.rules c.args.gathering before (with_desk c.load_gathered.new.desk (with_gathering None before)) c.args.out.now.items c.write_refusal.new.out.items all kept reply
-    (ap (λ desk. with_desk desk (with_gathering None before)) same)
+    let done = c.load_zone.ensures.done in
+    all_taken (session_loader g.D.Desk.rules) c.args.gathering (Ok c.in-Ok.zone) before (with_desk c.load_zone.new.desk (with_gathering None before))
+    c.args.out.now.items c.load_zone.new.out.items all c.in-Ok.ensures (done.0, (done.1, refl), done.2)
+
+pub returns-in-Err-clause-done : goal.returns-in-Err-clause-done
+returns-in-Err-clause-done g c =
+    let before = at_desk c.args.desk.now c.args.self.now in
+    let all : (c.args.gathering.left == 0) ≡ true = search rules in
+    all_taken (session_loader g.D.Desk.rules) c.args.gathering (Err c.in-Err.fault) before (with_gathering None before)
+    c.args.out.now.items c.write_load_fault.new.out.items all c.in-Err.ensures (load_fault_text c.in-Err.fault, (refl, refl), c.write_load_fault.ensures.text)
