@@ -273,8 +273,11 @@ impl<'a, R: Files<File = File> + Wait + Clock> Desk for SessionDesk<'a, R> {
 
     fn pause(&mut self) {
         let _ = self.daemon.pages.hand_over(self.rt, &mut self.pass);
-        match &mut self.claims {
-            Some(claims) => claim_turned(self.rt, self.daemon, claims),
+        match self.claims.take() {
+            Some(claims) => {
+                claim_turned(self.rt, self.daemon, claims);
+                self.claims = Some(claims);
+            }
             None => self.daemon.pages.keep_pace(self.rt),
         }
     }

@@ -5,7 +5,8 @@ use Rattle.sipl_lines.specs.Desk.{book_rules}
 use Rattle.sipl_lines.specs.PlainDesk.{plain_of, plain_rules}
 use Rattle.sipl_lines.specs.declared.lines.OutOfMemory.{OutOfMemory}
 use Rattle.sipl_lines.proofs.DeskCalls.{book_implies_plain}
-use Rattle.sipl_lines.proofs.Seen.{on_ok, takes, takes_first}
+use Rattle.sipl_lines.proofs.Results.{on_ok}
+use Rattle.sipl_lines.proofs.Seen.{takes, takes_first}
 use Rattle.siploc_c.specs.Embedded.{EmbeddedState, Puts, PutsFirst, session_of, whole}
 use Rattle.siploc_c.proofs.embedded.Embedded.put.Goals as goal
 
