@@ -256,8 +256,8 @@ func (e *exchange) readBefore() error {
 		return true
 	})
 	switch {
-	case err == nil && (fault == syscall.EAGAIN || fault == syscall.EINTR):
-		return nil
+	case err == nil && (fault == syscall.EAGAIN || fault == syscall.EINTR), errors.Is(err, os.ErrDeadlineExceeded):
+		return nil // (where the time has run out, the next read says so)
 	case err != nil:
 		return &BrokenError{Kind: ErrConnectionLost, Cause: err}
 	case fault != nil:

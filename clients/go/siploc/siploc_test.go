@@ -812,6 +812,12 @@ func TestTimeouts(t *testing.T) {
 			})
 		}
 	}
+	// A time that runs out before anything is sent, as on a busy machine.
+	early := connect(t, fake(t, func(stream net.Conn) { _, _ = io.Copy(io.Discard, stream) }), time.Second)
+	early.SetTimeout(1)
+	_, err := early.Find(ctx, "sip:a", Draws{})
+	var broken *BrokenError
+	equal(t, errors.As(err, &broken) && broken.Kind == ErrTimedOut && !broken.MayBeDone(), true)
 	session := connect(t, start(t, 1, "").address, time.Second)
 	session.SetTimeout(0)
 	equal(t, session.Repair(ctx), nil)
