@@ -162,12 +162,18 @@ class Locator:
         """Sets $du to the first target of the next hop, and keeps the others for `failed`."""
         uri = text_of("$nh(u)")
         # (what is no text may be an address all the same)
-        if uri is None or is_numeric(uri):
+        if uri is None:
+            return NUMERIC
+        # (where Kamailio's own resolver takes the locator's place: it would go to the host)
+        by_maddr = named_by_maddr(uri)
+        if by_maddr:
+            KSR.pv.sets("$du", by_maddr)
+        if is_numeric(uri):
             return NUMERIC
         # (for servers of many names: RFC 6066, 3)
         KSR.pv.sets("$xavp(tls=>server_name)", name_of(uri))
         try:
-            answer = self.ask(lambda session: session.find(uri, seed=self.chance.getrandbits(64)))
+            answer = self.ask(lambda session: self.find(session, uri))
         except Away:
             return AWAY
         except siploc.Error as fault:
@@ -186,6 +192,16 @@ class Locator:
         go_to([" ".join(map(str, target)) + named + " stream" * (is_long and target.transport == "udp")
                for target in answer.targets[:MOST]])
         return LOCATED
+
+    def find(self, session: siploc.BaseSession, uri: str) -> siploc.Answer:
+        """The targets of a URI. Where a record set changed in each of the locator's tries, it is asked again."""
+        seed = self.chance.getrandbits(64)
+        try:
+            return session.find(uri, seed=seed)
+        except siploc.Refused as fault:
+            if fault.code != "L1":
+                raise
+            return session.find(uri, seed=seed)
 
     def failed(self, _message: object) -> int:
         """Goes on after a target to which a request can't be sent."""
@@ -278,6 +294,16 @@ def hosts_of(uri: str) -> List[str]:
     """A URI's host with its port, and what it has as `maddr`."""
     host, *parameters = places_of(uri)
     return [host, *(it[len("maddr="):] for it in parameters if it.lower().startswith("maddr="))]
+
+
+def named_by_maddr(uri: str) -> str:
+    """The next hop that a URI's `maddr` is (RFC 3263, 4), at the URI's port and over its transport; or nothing."""
+    host, *given = hosts_of(uri)
+    if len(given) != 1 or not given[0]:
+        return ""
+    port = re.search(r":[0-9]+$", host)
+    transport = [it for it in places_of(uri)[1:] if it.lower().startswith("transport=")]
+    return ";".join([f"{uri.partition(':')[0]}:{given[0]}{port[0] if port else ''}", *transport])
 
 
 def places_of(uri: str) -> List[str]:
