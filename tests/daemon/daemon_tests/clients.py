@@ -5,6 +5,7 @@ from __future__ import annotations
 import concurrent.futures
 import contextlib
 import errno
+import fcntl
 import itertools
 import os
 import pathlib
@@ -15,6 +16,8 @@ import runpy
 import select
 import signal
 import socket
+import sys
+import termios
 import threading
 import time
 import types
@@ -431,9 +434,22 @@ def gives_up_a_client_that_takes_its_replies_slowly(checks: Checks, folder: path
         stopped(checks, daemon)
 
 
+def is_filled(client: Client) -> bool:
+    """Whether there is something to read, and no more of it within half a second. No daemon is asked, which may be
+    slow: it gives a client up that waits for long before it reads."""
+    def unread() -> int:
+        found = fcntl.ioctl(client.stream, termios.FIONREAD, bytes(4))
+        return int.from_bytes(found, sys.byteorder)
+
+    before = unread()
+    time.sleep(0.5)
+    return 0 < before == unread()
+
+
 @test
 def a_process_that_is_stopped_and_goes_on_ends_no_session(checks: Checks, folder: pathlib.Path) -> None:
-    unix, questions = f"unix:{folder}/s", 3_000
+    # (the replies to one read, of which a Unix socket takes half or so; the rest has thirty seconds)
+    unix, questions = f"unix:{folder}/s", 400
 
     def interrupt(daemon: Daemon) -> None:
         """Stops the process, which interrupts each call that waits with a time limit, and lets it go on."""
@@ -455,7 +471,7 @@ def a_process_that_is_stopped_and_goes_on_ends_no_session(checks: Checks, folder
         checks.equal(clients[0].ask(f"zone example.com. 32{text}"), ["ok zone 32 0 0 1"], "zone")
         slow = stack.enter_context(Client(unix, is_slow=True))
         slow.send("find sip:a.example.com:1\n" * questions)
-        until(lambda: stands_still(daemon))
+        until(lambda: is_filled(slow))
         interrupt(daemon)
         wanted = [*(f"target {n + 1} udp 192.0.2.{n} 1" for n in range(32)), "ok find 32"]
         replies = [slow.reply() for _ in range(questions)]
