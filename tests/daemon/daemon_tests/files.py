@@ -4,11 +4,23 @@ from __future__ import annotations
 
 import pathlib
 import random
+import subprocess
 from typing import Optional
 
 import snapshots
 from commits import HEAD_LEN, LINE_LEN, bodies_of, body_of, log_of, state_of
-from daemon_tests.support import SEED, Checks, Client, ended_start, started, stopped, test, until
+from daemon_tests.support import (
+    PATIENCE,
+    PROGRAM,
+    SEED,
+    Checks,
+    Client,
+    ended_start,
+    started,
+    stopped,
+    test,
+    until,
+)
 
 
 @test
@@ -123,6 +135,28 @@ def places_of(log: bytes) -> list[int]:
         places.append(place)
         place += LINE_LEN + len(body)
     return places
+
+
+@test
+def refuses_a_state_of_more_than_its_settings_allow(checks: Checks, folder: pathlib.Path) -> None:
+    """Its files stay as they are, and are right: the settings are not."""
+    state, log = folder / "state", folder / "state.log"
+    state.write_bytes(state_of(b"# page 3\nclock 5000\nzone example.com. 2\na.example.com. A 192.0.2.1\n"
+                               b"b.example.com. A 192.0.2.2\nhold udp 192.0.2.8 5060 60000\n"
+                               b"hold udp 192.0.2.9 5060 60000\n"))
+    log.write_bytes(log_of(state.read_bytes(), [b"add c.example.com. A 192.0.2.3\n"]))
+    before, settings = (state.read_bytes(), log.read_bytes()), f'state = "{state}"\nclock = "lines"\n'
+    for more, said in ("records = 2", f"{log}: commit 1"), ("records = 1", f"{state}: line 4"), \
+            ("holds = 1", f"{state}: line 8"):
+        checks.equal(ended_start(folder, settings + more), (1, f"siplocd: state {said}: refused\n"), more)
+        checks.equal((state.read_bytes(), log.read_bytes()), before, f"the files after {more}")
+    ran = subprocess.run([PROGRAM, "check-state", str(state)], capture_output=True, text=True, timeout=PATIENCE,
+                         check=False)
+    checks.equal((ran.returncode, ran.stderr), (0, ""), "a check")
+    with started(checks, folder, f"{settings}records = 3\nholds = 2") as daemon:
+        seen = daemon.stats()
+        checks.equal((seen["records"], seen["held"]), (3, 2), "with settings that allow it")
+        stopped(checks, daemon)
 
 
 @test

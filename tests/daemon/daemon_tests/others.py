@@ -181,6 +181,24 @@ def keeps_what_was_replied_to_where_its_log_is_changed(checks: Checks, folder: p
 
 
 @test
+def writes_on_in_a_log_that_was_moved(checks: Checks, folder: pathlib.Path) -> None:
+    """As logrotate moves one. A stop has all; after a kill the log is to be moved back."""
+    settings, log, away = f'state = "{folder}/state"', folder / "state.log", folder / "state.log.1"
+    for number, is_killed in (2, False), (3, True):
+        with started(checks, folder, settings) as daemon, Client(daemon.address) as client:
+            checks.expect("ok zone 1 " in str(client.ask("zone example.com. 1\na A 192.0.2.1")), "zone")
+            log.rename(away)
+            checks.equal(client.ask(f"add b.example.com. A 192.0.2.{number}"), ["ok add 1"], "a change")
+            daemon.kill() if is_killed else stopped(checks, daemon)
+        if is_killed:
+            checks.equal(ended_start(folder, settings), (1, f"siplocd: state {log}: not of this state\n"), "no log")
+            away.rename(log)
+        with started(checks, folder, settings) as daemon, Client(daemon.address) as client:
+            checks.equal(client.ask("find sip:b.example.com:1"), target(number), f"killed: {is_killed}")
+            stopped(checks, daemon)
+
+
+@test
 def cuts_off_a_change_that_could_not_be_synced(checks: Checks, folder: pathlib.Path) -> None:
     """The system has the octets, and may never write them: what comes after them would be lost with them."""
     for name in "sync", "write":
