@@ -17,6 +17,8 @@ from typing import IO, Callable, Iterator, NamedTuple, Optional
 
 # The types that siploc reads.
 READ = ("A", "AAAA", "CNAME", "SRV", "NAPTR")
+# Others whose data are names and numbers, which are compared without case.
+NAMED = ("NS", "PTR", "MX", "DNAME", "KX", "AFSDB", "RP", "RT", "PX", "MINFO")
 
 OPTIONS = ["+noall", "+answer", "+comments", "+additional", "+norecurse", "+noedns", "+noidnin", "+noidnout",
            "+tries=1", "+retry=0"]
@@ -76,7 +78,7 @@ def read_record(line: str) -> Record:
     data = rest[0].rstrip() if rest else ""
     if kind in READ and data.startswith("\\#"):
         raise Fault(f"{owner} has a record of type {kind} in generic form (RFC 3597), which siploc refuses (Z10)")
-    if kind in ("A", "AAAA", "CNAME", "SRV"):
+    if kind in ("A", "AAAA", "CNAME", "SRV", *NAMED):
         data = data.lower()
     elif kind == "NAPTR":
         head, _, replacement = data.rpartition(" ")

@@ -10,8 +10,10 @@ import zones
 
 
 class Load(NamedTuple):
-    """A zone as it was transferred, and the zones below it that were given with it."""
+    """A zone as it was transferred, and the zones below it that were given with it. Those that are loaded elsewhere exist
+    here too: else their names would have what a wildcard above them has (RFC 4592, 4.2)."""
     zones: Sequence[zones.Zone]
+    apart: Sequence[str] = ()
 
     @property
     def apex(self) -> str:
@@ -22,7 +24,7 @@ class Load(NamedTuple):
 
     def lines(self) -> list[str]:
         """The lines to load."""
-        made = [line for it in self.zones for line in it.lines()]
+        made = [line for it in self.zones for line in it.lines()] + [f"{it} {zones.MARK}" for it in self.apart]
         if len(made) > zones.MAX_LINES:
             raise zones.Fault(f"siploc would be given {len(made)} records, and a zone has at most {zones.MAX_LINES} lines (K1)")
         return made

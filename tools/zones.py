@@ -15,8 +15,10 @@ from dig import READ, Fault, Record, Server, ask
 PROOFS = ("RRSIG", "NSEC", "NSEC3")
 # The lines that a `zone` line may announce, the octets of a line, and the records of a set.
 MAX_LINES, MAX_LINE, MAX_SET = 1 << 20, 65_536, 32
-# No name has more records that are read: a set fits in a message, and a record takes 16 octets.
+# No name has more records that are read: a set fits in a message, and a record takes 16 octets. Nor has one so many others.
 MAX_NAME = 5 * 65_536 // 16
+# By this a name exists that has no record of its own to exist by.
+MARK = "NULL \\# 0"
 # Where there are more differences the zone is transferred as a whole.
 MAX_CHANGES = 2 * MAX_LINES
 
@@ -140,7 +142,7 @@ def finish(records: Iterator[Record], soa: Record, apex: str) -> Iterator[Record
 
 
 class Zone:
-    """The records of a zone, as far as siploc reads them, and how many others each name has."""
+    """The records of a zone: those that siploc reads, and the others, by which a name exists."""
 
     def __init__(self, apex: str, apart: Iterable[str] = (), truncate: bool = False, skip: bool = False):
         self.apex, self.apart, self.truncate, self.skip = apex, [*apart], truncate, skip
@@ -148,9 +150,9 @@ class Zone:
         self.refused: dict[str, str] = {}
         self.instead: dict[str, dict[str, str]] = {}
         self.soa: Optional[Record] = None
+        # (of the apex the SOA record is the first of the others)
         self.read: dict[str, list[str]] = {}
-        self.others: dict[str, int] = {}
-        self.samples: dict[str, str] = {}
+        self.others: dict[str, list[str]] = {}
         self.left_out: collections.Counter[str] = collections.Counter()
 
     @property
@@ -167,7 +169,10 @@ class Zone:
 
     def tables(self) -> tuple[dict[str, Any], ...]:
         """What there is by names."""
-        return self.read, self.others, self.samples
+        return self.read, self.others
+
+    def table_of(self, kind: str) -> dict[str, list[str]]:
+        return self.read if kind in READ else self.others
 
     def put_back(self, owner: str, parts: Sequence[Any]) -> None:
         """Puts a name's parts of the tables back, where it had any."""
@@ -190,36 +195,32 @@ class Zone:
         why = self.leaves_out(record)
         if why:
             self.left_out[why] += 1
-        elif record.kind in READ:
-            kept = self.read.setdefault(record.owner, [])
-            text = f"{record.kind} {record.data}"
-            if text in kept:
-                self.left_out["that were there before"] += 1
-                return False
-            if len(kept) == MAX_NAME:
-                raise Fault(f"{record.owner} has more records than messages can hold")
-            kept.append(text)
-        else:
-            self.others[record.owner] = self.others.get(record.owner, 0) + 1
-            text = f"{record.kind} {record.data}"
-            self.samples.setdefault(record.owner, text if len(text) < MAX_LINE // 2 else record.kind)
+            return True
+        kept, text = self.table_of(record.kind).setdefault(record.owner, []), f"{record.kind} {record.data}"
+        if text in kept:
+            self.left_out["that were there before"] += 1
+            return False
+        if len(kept) == MAX_NAME:
+            raise Fault(f"{record.owner} has more records than messages can hold")
+        kept.append(text)
         return True
 
     def remove(self, record: Record) -> None:
         """Takes a record away; one that is not there is a KeyError."""
         if self.leaves_out(record):
             return
-        if record.kind in READ:
-            kept, text = self.read[record.owner], f"{record.kind} {record.data}"
-            if text not in kept:
-                raise KeyError(text)
-            kept.remove(text)
-            if not kept:
-                del self.read[record.owner]
-        else:
-            self.others[record.owner] -= 1
-            if not self.others[record.owner]:
-                del self.others[record.owner], self.samples[record.owner]
+        table, text = self.table_of(record.kind), f"{record.kind} {record.data}"
+        kept = table[record.owner]
+        if text not in kept:
+            raise KeyError(text)
+        kept.remove(text)
+        if not kept:
+            del table[record.owner]
+
+    def mark_of(self, owner: str) -> str:
+        """A record that siploc does not read, by which a name exists."""
+        text = self.others.get(owner, [MARK])[0]
+        return f"{owner} {text if len(text) < MAX_LINE // 2 else text.partition(' ')[0]}"
 
     def kept(self, owner: str) -> dict[str, str]:
         """What siploc is given of a name: the text of each record by what it is compared by. A name that it reads
@@ -234,7 +235,7 @@ class Zone:
             if counts[kind] <= MAX_SET:
                 texts[text] = f"{owner} {text}"
         if owner in self.others and (not texts or owner == self.apex):
-            texts[""] = f"{owner} {self.samples[owner]}"
+            texts[""] = self.mark_of(owner)
         return texts
 
     def why_refused(self, owner: str) -> Optional[str]:
@@ -259,7 +260,8 @@ class Zone:
             self.instead.pop(owner, None)
             if why:
                 self.refused[owner] = why.partition(":")[0]
-                self.instead[owner] = before(owner)
+                # (one that does not exist would have what a wildcard has, RFC 4592, 2.2.1)
+                self.instead[owner] = before(owner) or {"": self.mark_of(owner)}
 
     def lines(self) -> list[str]:
         """The lines to load, the SOA record first."""
@@ -274,7 +276,7 @@ class Zone:
         marks = sum(1 for it in self.others if "" in self.kept(it))
         counts = {**self.left_out,
                   **{f"since {why}": len(self.read[owner]) for owner, why in self.refused.items()},
-                  "of types that are not read, whose names exist by others": sum(self.others.values()) - marks,
+                  "of types that are not read, whose names exist by others": sum(map(len, self.others.values())) - marks,
                   **{f"of type {kind} of {owner}, beyond the {MAX_SET} of a set": count - MAX_SET
                      for (owner, kind), count in beyond.items()}}
         return [f"{count} {'record' if count == 1 else 'records'} {why}" for why, count in counts.items() if count > 0]
@@ -283,7 +285,7 @@ class Zone:
 def name_the_soa(zone: Zone, soa: Record) -> None:
     """Makes this SOA record that of the zone, in place of an older one."""
     zone.soa = soa
-    zone.samples[zone.apex] = f"SOA {soa.data}"
+    zone.others[zone.apex][0] = f"SOA {soa.data}"
 
 
 def take(zone: Zone, soa: Record, records: Iterable[Record], before: Optional[Zone] = None) -> Zone:
