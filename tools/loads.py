@@ -59,7 +59,7 @@ def add_words(parser: argparse.ArgumentParser) -> None:
     parser.add_argument("--truncate", action="store_true",
                         help=f"keep the first {zones.MAX_SET} records of a set that has more; without it, they are refused")
     parser.add_argument("--skip-refused", action="store_true",
-                        help="leave a name as it was that siploc would refuse, for a "
+                        help="leave a name as it was, or without records, that siploc would refuse, for a "
                         "set that is too large or an alias beside other data; without it, the zone stays as it is")
     parser.add_argument("--timeout", metavar="SECONDS", type=int, default=10,
                         help="for how long the server may be silent (10); a whole transfer may take 60 times as long")
