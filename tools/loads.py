@@ -45,6 +45,18 @@ def fetch(given: argparse.Namespace, apex: str, before: Optional[zones.Zone] = N
         raise zones.Fault(f"{apex} from {given.server}: {fault}") from None
 
 
+def fetch_newest(given: argparse.Namespace, apex: str) -> zones.Zone:
+    """What `fetch` returns, of the newest serial that the server has at any of its addresses: one may be behind."""
+    zone = fetch(given, apex)
+    try:
+        while len(given.server.addresses()) > 1 and zones.is_newer(
+                zones.serial_of(zones.ask_soa(given.server, zone)), zone.serial):
+            zone = fetch(given, apex, zone)
+    except zones.Fault as fault:
+        raise zones.Fault(f"{apex}: serial {zone.serial} may be behind: {fault}") from None
+    return zone
+
+
 def add_words(parser: argparse.ArgumentParser) -> None:
     """The words that say what is transferred, and how."""
     parser.add_argument("server", metavar="SERVER[@PORT]",
