@@ -67,11 +67,12 @@ def add_words(parser: argparse.ArgumentParser) -> None:
     parser.add_argument("--tsig", metavar="FILE", help="a file with the key that signs the transfer, as BIND's "
                         "tsig-keygen prints it; an answer that is not signed by it is refused")
     parser.add_argument("--apart", metavar="CHILD", action="append", default=[],
-                        help="leave out the names of a child zone, CHILD and below, which is loaded elsewhere")
+                        help="leave out the names of a child zone, CHILD and below, which is loaded elsewhere: they "
+                        "have nothing then, of a wildcard neither")
     parser.add_argument("--truncate", action="store_true",
                         help=f"keep the first {zones.MAX_SET} records of a set that has more; without it, they are refused")
     parser.add_argument("--skip-refused", action="store_true",
-                        help="leave a name as it was, or without records, that siploc would refuse, for a "
+                        help="leave a name as it was, or empty, that siploc would refuse, for a "
                         "set that is too large or an alias beside other data; without it, the zone stays as it is")
     parser.add_argument("--timeout", metavar="SECONDS", type=int, default=10,
                         help="for how long the server may be silent (10); a whole transfer may take 60 times as long")

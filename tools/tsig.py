@@ -18,6 +18,8 @@ BADSIG, BADKEY, BADTIME, BADTRUNC = 16, 17, 18, 22
 NOTAUTH = 9
 FUDGE = 300
 TYPE = struct.pack(">HHI", 250, 255, 0)
+# What is in quotes, or else a comment of BIND's files.
+COMMENT = re.compile(r'"[^"]*"|(?<![^\s;{}])(?://[^\n]*|#[^\n]*|/\*.*?\*/)', re.DOTALL)
 
 
 class Key(NamedTuple):
@@ -35,9 +37,9 @@ def wire(name: str) -> bytes:
 
 
 def read_key(path: str) -> Optional[Key]:
-    """The key of a file as BIND's tsig-keygen prints it, if it is one."""
+    """The key of a file as BIND's tsig-keygen prints it, if it is one: `dig` takes the first that is no comment, too."""
     try:
-        text = pathlib.Path(path).read_text()
+        text = COMMENT.sub(lambda it: it[0] if it[0].startswith('"') else " ", pathlib.Path(path).read_text())
         match = re.search(r'key\s+"?([^\s";{]+)"?\s*\{', text)
         algorithm = re.search(r'algorithm\s+"?([^\s";]+)"?\s*;', text)
         secret = re.search(r'secret\s+"?([A-Za-z0-9+/=]+)"?\s*;', text)
