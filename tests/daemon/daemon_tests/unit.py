@@ -46,6 +46,9 @@ def the_unit_starts_it_again_for_as_long_as_it_takes(checks: Checks, _folder: pa
     """By default systemd gives up after five starts within ten seconds, as when a disk is full for a minute."""
     unit = read_unit()
     checks.equal(unit["Service"].get("Restart"), "on-failure", "what is started again")
+    # (systemd.service(5) takes an end by these for success, as a service that handles them ends)
+    checks.equal({*unit["Service"].get("RestartForceExitStatus", "").split()}, {"SIGHUP", "SIGINT", "SIGTERM"},
+                 "the signals after which it is started again")
     checks.equal(unit["Unit"].get("StartLimitIntervalSec"), "0", "the limit of starts")
     checks.expect(int(unit["Service"].get("RestartSec", "0")) >= 1, "it is started again at once, and again")
 
