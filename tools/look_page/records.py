@@ -30,7 +30,7 @@ def read_settings(path: str) -> dict[str, Any]:
     if not tomllib.loads:
         raise Fault("--settings needs Python 3.11")
     try:
-        return tomllib.loads(pathlib.Path(path).read_text())
+        return tomllib.loads(pathlib.Path(path).read_text("utf-8-sig"))
     except (OSError, ValueError) as fault:
         raise Fault(f"{path}: {getattr(fault, 'strerror', None) or fault}") from None
 
