@@ -78,7 +78,8 @@ def without_marks(changes: Iterable[changelog.Change]) -> Tuple[List[changelog.M
                 marks[mark.turn] = mark
             elif mark:
                 marks.pop(mark.turn, None)
-        else:
+        elif change.command != "clock 0":
+            # (by `clock 0`, which moves nothing, tools/apply asks for the time)
             others.append(change)
     return sorted(marks.values(), key=lambda it: it.order), others
 
