@@ -10,6 +10,7 @@ import subprocess
 from typing import Callable
 
 from commits import bodies_of, log_of, state_of
+from daemon_tests.clients import is_filled
 from daemon_tests.failures import LONG_ZONE, REFUSED, Faults, target
 from daemon_tests.faults import Scene, left_by_machine
 from daemon_tests.support import PATIENCE, PROGRAM, Checks, Client, Daemon, ended_start, started, stopped, test, until
@@ -178,6 +179,31 @@ def keeps_what_was_replied_to_where_its_log_is_changed(checks: Checks, folder: p
                 checks.equal(client.ask("find sip:a.example.com:1"), target(1), f"{name}: at the next start")
                 checks.equal(client.ask("add d.example.com. A 192.0.2.4"), ["ok add 1"], f"{name}: a change")
                 stopped(checks, daemon)
+
+
+@test
+def keeps_what_was_replied_to_where_its_log_is_removed_while_a_page_waits(checks: Checks, folder: pathlib.Path) -> None:
+    """The state of a page that waits for its claim can't be written then: that of the last one has all."""
+    settings, unix, log = f'state = "{folder}/state"', f"unix:{folder}/s", folder / "state.log"
+    with started(checks, folder, settings, unix=unix) as daemon, Client(daemon.address) as client, \
+            Client(unix, is_slow=True) as slow:
+        text = "".join(f"\na A 192.0.2.{n + 1}" for n in range(32))
+        checks.equal(client.ask(f"zone example.net. 32{text}"), ["ok zone 32 0 0 1"], "a zone")
+        # (while its replies wait for it its receipts are its own)
+        slow.send("find sip:a.example.net:1\n" * 400)
+        until(lambda: is_filled(slow))
+        # More than a log may have: a page is turned, with the next checkpoint.
+        checks.equal(client.ask(LONG_ZONE), ["ok zone 1401 0 0 1401"], "a long zone")
+        checks.expect(until(lambda: b"\n# page " in log.read_bytes()), "no checkpoint")
+        checks.equal(client.ask("add b.example.com. A 192.0.2.2"), ["ok add 1"], "a change")
+        log.unlink()
+        slow.stream.close()
+        checks.equal(daemon.end()[0], 1, daemon.said())
+        checks.expect(is_told_once(daemon.said(), "siplocd: state: "), daemon.said())
+    with started(checks, folder, settings) as daemon, Client(daemon.address) as client:
+        for name, number in ("a.example.com", 1), ("b.example.com", 2):
+            checks.equal(client.ask(f"find sip:{name}:1"), target(number), name)
+        stopped(checks, daemon)
 
 
 @test

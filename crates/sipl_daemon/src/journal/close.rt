@@ -74,7 +74,8 @@ impl Daemon {
     }
 }
 
-// Claims the events of all pages, archives them, and writes the state. Returns how many events there were.
+// Claims the events of all pages, archives them, and writes the state, also where a page can't be written.
+// Returns how many events there were.
 fn end<R: Files<File = File> + Wait + Clock>(
     rt: &R,
     claims: &mut Claims,
@@ -84,7 +85,14 @@ fn end<R: Files<File = File> + Wait + Clock>(
     last: &Page,
     observed: &Observed,
 ) -> Result<u64, CloseFault> {
-    claims.end(rt, pages, archive, last)?;
+    if let Err(fault) = claims.end(rt, pages, archive, last) {
+        if let (CloseFault::State(_) | CloseFault::Archive(_), Some(changes)) = (&fault, changes) {
+            // Its log may have been removed or changed: then the state of a page can't be written, and no
+            // file but that of the last has all that was replied to.
+            let _ = changes.end(rt, last.result());
+        }
+        return Err(fault);
+    }
     // The first event has the number 0.
     let events = last.next();
     let Some(changes) = changes else {
