@@ -123,10 +123,13 @@ impl<'a, R: Files<File = File> + Wait + Clock> SessionDesk<'a, R> {
     }
 
     // Moves the book's time to that of the host, if it is the host's.
-    fn set_clock(&self) {
+    fn set_clock(&self) -> Result<(), DeskFault> {
         if self.claims.is_none() {
-            self.daemon.set_clock(self.rt);
+            if let Err(fault) = self.daemon.set_clock(self.rt) {
+                return Err(DeskFault::Service(fault));
+            }
         }
+        Ok(())
     }
 
     /// Ends the session: hands over the receipts that the pass has. Where an allocation fails they are
@@ -189,7 +192,8 @@ impl<'a, R: Files<File = File> + Wait + Clock> Desk for SessionDesk<'a, R> {
     fn hold(&mut self, endpoint: &Endpoint, ms: u64) -> Result<u64, DeskFault> {
         self.check_kept()?;
         let (rt, daemon) = (self.rt, self.daemon);
-        self.set_clock();
+        // (from an earlier time a hold would be over too early, or at once)
+        self.set_clock()?;
         match daemon
             .source
             .hold(rt, &mut self.pass, endpoint, ms, self.place)
@@ -206,7 +210,7 @@ impl<'a, R: Files<File = File> + Wait + Clock> Desk for SessionDesk<'a, R> {
         self.check_rights()?;
         self.check_kept()?;
         let (rt, daemon) = (self.rt, self.daemon);
-        self.set_clock();
+        let _ = self.set_clock();
         match daemon
             .source
             .release(rt, &mut self.pass, endpoint, self.place)
@@ -236,7 +240,7 @@ impl<'a, R: Files<File = File> + Wait + Clock> Desk for SessionDesk<'a, R> {
     }
 
     fn now(&self) -> u64 {
-        self.set_clock();
+        let _ = self.set_clock();
         self.daemon.source.service.now(self.rt)
     }
 
