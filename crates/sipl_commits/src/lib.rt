@@ -16,6 +16,3 @@ pub use fault::{LogFault, StateFault};
 pub use log::{Log, log_of, read_log, write_head};
 pub use point::Point;
 pub use state::{State, read_state, write_state};
-
-#[cfg(test)]
-mod tests;

@@ -1,11 +1,13 @@
-//! The tests of the libraries below the book that look targets up, by their public calls alone. They are in
-//! a crate of their own, since a crate that has tests is proved a second time for them.
+//! The tests of the libraries below the book, and of the octets of states and logs, by public calls alone.
+//! They are in a crate of their own, since a crate that has tests is proved a second time for them.
 #![tactic(auto)]
 
 #[cfg(test)]
 mod assertions;
 #[cfg(test)]
 mod choice;
+#[cfg(test)]
+mod commits;
 #[cfg(test)]
 mod evidence;
 #[cfg(test)]

@@ -1,6 +1,6 @@
 // States and logs of the daemon: their octets, whose digests are those of Python's `hashlib`, and what is
 // read of octets that were cut or changed.
-use crate::{LogFault, Point, read_log, read_state, write_commit, write_head, write_state};
+use sipl_commits::{LogFault, Point, read_log, read_state, write_commit, write_head, write_state};
 use std::alloc::{AllocError, Global};
 
 const STATE: &[u8] =
