@@ -1,5 +1,5 @@
-// Is preloaded by tests/campaigns/refused-memory: lets one allocation of the program fail, and stops the program
-// before each read of its standard input until an order comes.
+// Is preloaded by tests/campaigns/refused-memory, and by tests/daemon/run: lets one allocation of the program fail,
+// and stops the program before each read of its standard input until an order comes.
 //
 // REFUSED_MEMORY is `FILE ORDERS REPORTS`. The file has a count, which is shared with the tool: of how many
 // allocations from now on the last one fails, or 0. The other two are descriptors; without them (-1) the
