@@ -2,15 +2,10 @@
 
 from __future__ import annotations
 
-import mmap
 import pathlib
-import re
-import struct
-import subprocess
 import time
 
-from commits import bodies_of
-from daemon_tests.support import PROGRAM, TOP, Checks, Client, started, stopped, test, until
+from daemon_tests.support import Checks, Client, started, stopped, test, until
 
 
 @test
@@ -83,37 +78,3 @@ def the_time_is_that_of_lines(checks: Checks, folder: pathlib.Path) -> None:
             checks.equal(client.ask(line), wanted, line)
         time.sleep(0.3)
         stopped(checks, daemon, 6)
-
-
-@test
-def a_hold_begins_at_the_present_or_is_refused(checks: Checks, folder: pathlib.Path) -> None:
-    """Whichever allocation fails: from an earlier time it would be over too early, or at once."""
-    if subprocess.run([PROGRAM, "--version"], capture_output=True, check=True).stdout.endswith(b"+trial\n"):
-        checks.expect(True, "whose checks have an allocator of their own")
-        return
-    library, shared = folder / "refused_memory.so", folder / "count"
-    subprocess.run(["cc", "-O2", "-shared", "-fPIC", "-o", library, TOP / "tests/campaigns/refused_memory.c"], check=True)
-    shared.write_bytes(bytes(mmap.PAGESIZE))
-    environment = {"LD_PRELOAD": str(library), "REFUSED_MEMORY": f"{shared} -1 -1"}
-    replies, count, left = [], 0, 0
-    with shared.open("r+b") as file, mmap.mmap(file.fileno(), mmap.PAGESIZE) as page:
-        # Up to one that is more than a hold makes.
-        while left == 0 and count < 200:
-            count += 1
-            inner = folder / f"{count}"
-            inner.mkdir()
-            with started(checks, inner, f'state = "{inner}/state"', listen=[f"unix:{inner}/lines"],
-                         environment=environment) as daemon, Client(daemon.address) as client:
-                checks.equal(client.ask("hold udp 192.0.2.1 1 0"), ["ok hold"], "a hold before")
-                before = len(bodies_of((inner / "state.log").read_bytes()))
-                time.sleep(0.01)
-                struct.pack_into("q", page, 0, count)
-                replies.append(client.ask("hold udp 192.0.2.2 1 600000"))
-                left, = struct.unpack_from("q", page)
-                struct.pack_into("q", page, 0, 0)
-                said = b"".join(bodies_of((inner / "state.log").read_bytes())[before:])
-                daemon.kill()
-            if replies[-1] == ["ok hold"]:
-                checks.expect(re.search(rb"^clock \d+\nhold udp 192.0.2.2 ", said, re.M), f"{count}: {said!r}")
-    checks.equal(replies[-1], ["ok hold"], f"without a fault, {count}")
-    checks.expect(replies.count(["err Memory"]) > 4, f"{replies}")
