@@ -8,8 +8,8 @@
             print(target.transport, target.address, target.port)
 
 A session has the calls and the errors of a `siploc.Session`, and a book of its own, which ends with it. Threads may
-share it: their calls are made one after another. It is opened after a fork, in the process that uses it. The journal is
-full after 1,048,576 answers, changes and holds (B3): `page` drops it.
+share it: their calls are made one after another. The child of a fork can't, and opens its own. The journal is full after
+1,048,576 answers, changes and holds (B3): `page` drops it.
 
 It needs the library of clients/c/embedded, and siploc.py.
 """
@@ -18,9 +18,10 @@ from __future__ import annotations
 
 import ctypes
 import functools
+import os
 import threading
 import weakref
-from typing import List, Sequence
+from typing import Callable, List, Sequence
 
 import siploc
 
@@ -54,6 +55,12 @@ def _library(path: str) -> ctypes.CDLL:
     return library
 
 
+def _free(close: Callable[[_Handle], None], handle: _Handle, process: int) -> None:
+    """Closes a session of this process. In the child of a fork it may be within a call of a thread that is not there."""
+    if process == os.getpid():
+        close(handle)
+
+
 def open(settings: str = "", *, library: str = "libsiploc_embedded.so") -> Session:
     """A session with these settings, which are those of `siploc run`.
 
@@ -68,26 +75,34 @@ class Session(siploc.BaseSession):
 
     def __init__(self, library: ctypes.CDLL, settings: str) -> None:
         """A session of a library that is loaded."""
-        octets, handle = settings.encode("utf-8", "surrogateescape"), _Handle()
+        handle, refused = _Handle(), BadSettings(f"the settings are refused: {settings[:200]!r}")
+        try:
+            octets = settings.encode("utf-8", "surrogateescape")
+        except UnicodeEncodeError:
+            raise refused from None
         status = library.siploc_embedded_open(octets, len(octets), handle)
         if status == _SETTINGS:
-            raise BadSettings(f"the settings are refused: {settings[:200]!r}")
+            raise refused
         if status != _OK:
             raise MemoryError
         self._put, self._take = library.siploc_embedded_put, library.siploc_embedded_take
         self._handle, self._room, self._turn = handle, ctypes.create_string_buffer(_ROOM), threading.RLock()
         # (the handler of a signal comes in too, where its thread is within a call)
         self._is_busy = self._ends = False
+        self._process = os.getpid()
         # Also where the session is dropped.
-        self._close = weakref.finalize(self, library.siploc_embedded_close, handle)
+        self._close = weakref.finalize(self, _free, library.siploc_embedded_close, handle, self._process)
         self._close.atexit = False
 
     @property
     def is_open(self) -> bool:
-        return self._close.alive and not self._ends
+        return self._close.alive and not self._ends and self._process == os.getpid()
 
     def close(self) -> None:
-        """Ends the session, and frees what it has; a call that is being made comes to its end before."""
+        """Ends the session, and frees what it has; a call that is being made comes to its end before. In the child of a
+        fork it does nothing."""
+        if self._process != os.getpid():
+            return
         with self._turn:
             self._ends = True
             if not self._is_busy:
@@ -95,6 +110,9 @@ class Session(siploc.BaseSession):
 
     def _exchange(self, commands: Sequence[siploc._Command]) -> List[siploc.Reply]:
         """Carries out commands, and reads their replies."""
+        # (in the child of a fork a thread may have the turn that is not there)
+        if self._process != os.getpid():
+            raise siploc.NotConnected("the session is another process's")
         with self._turn:
             if not self.is_open:
                 raise siploc.NotConnected("the session has ended")

@@ -8,6 +8,8 @@ The last line is `N passed, M failed`.
 """
 
 import ctypes
+import os
+import signal
 import sys
 import threading
 import unittest
@@ -101,6 +103,40 @@ class Memory(unittest.TestCase):
         session = siploc_embedded.Session(library, "")
         del session
         self.assertEqual(library.closed, 1)
+
+    def test_the_child_of_a_fork(self):
+        """It neither waits for a thread that is not there, nor frees what that has in use."""
+        library, is_within, goes_on = Library([], [b"ok repair\n"]), threading.Event(), threading.Event()
+        session, put = siploc_embedded.Session(library, ""), library.siploc_embedded_put
+
+        def waits(*words):
+            is_within.set()
+            goes_on.wait(30)
+            return put(*words)
+
+        session._put = waits
+        thread = threading.Thread(target=session.repair)
+        thread.start()
+        is_within.wait(30)
+        child = os.fork()
+        if child == 0:
+            signal.alarm(10)
+            try:
+                session.repair()
+            except siploc.NotConnected:
+                was_open = session.is_open
+                session.close()
+                session._close()
+                os._exit(0 if not was_open and library.closed == 0 else 1)
+            finally:
+                os._exit(2)
+        goes_on.set()
+        thread.join(30)
+        self.assertEqual((os.waitpid(child, 0)[1], session.is_open), (0, True))
+
+    def test_settings_without_octets(self):
+        with self.assertRaises(siploc_embedded.BadSettings):
+            siploc_embedded.Session(Library([], []), "# \ud800")
 
 
 if __name__ == "__main__":
