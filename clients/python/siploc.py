@@ -859,19 +859,21 @@ class Session(BaseSession):
                 raise InvalidCommand("the call of a signal's handler within a call")
             exchange = _Exchange(self._stream, commands)
             try:
-                self._is_busy = True
-                self._run(exchange)
-            except (OSError, ValueError) as fault:
-                # (ValueError: the handler of a signal has closed the session)
+                try:
+                    self._is_busy = True
+                    self._run(exchange)
+                finally:
+                    self._is_busy = False
+            except BaseException as fault:
+                # (again: what a signal raises may come before it, up to Python 3.9)
+                self._is_busy = False
                 self._end()
+                # (ValueError: the handler of a signal has closed the session)
+                if not isinstance(fault, (OSError, ValueError)):
+                    raise
                 if isinstance(fault, OSError) and fault.errno is None:
                     raise  # (as one by which such a handler bounds a call's time)
                 raise exchange.lost(str(fault)) from fault
-            except BaseException:
-                self._end()
-                raise
-            finally:
-                self._is_busy = False
         return exchange.replies
 
     def _run(self, exchange: _Exchange) -> None:

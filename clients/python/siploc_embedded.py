@@ -120,16 +120,19 @@ class Session(siploc.BaseSession):
                 raise siploc.InvalidCommand("the call of a signal's handler within a call")
             come = siploc._Replies(commands)
             try:
-                self._is_busy = True
-                while len(come.replies) < len(commands):
-                    self._run(come)
+                try:
+                    self._is_busy = True
+                    while len(come.replies) < len(commands):
+                        self._run(come)
+                finally:
+                    self._is_busy = False
             except BaseException:
-                self._ends = True
+                # (again: what a signal raises may come before it, up to Python 3.9)
+                self._is_busy, self._ends = False, True
+                self._close()
                 raise
-            finally:
-                self._is_busy = False
-                if self._ends:
-                    self._close()
+            if self._ends:
+                self._close()
         return come.replies
 
     def _run(self, come: siploc._Replies) -> None:

@@ -232,6 +232,31 @@ def relay(port, address):
             process.stdin.close()
 
 
+def is_interrupted(call, functions, number):
+    """Makes a call, and raises what a signal may before the line of this number of these functions; whether it has
+    so many."""
+    codes, left = [it.__code__ for it in functions], number
+
+    def trace(frame, event, _):
+        nonlocal left
+        if frame.f_code not in codes:
+            return None
+        left -= event == "line"
+        if event == "line" and left == 0:
+            raise KeyboardInterrupt
+        return trace
+
+    before = sys.gettrace()
+    sys.settrace(trace)
+    try:
+        call()
+    except KeyboardInterrupt:
+        pass
+    finally:
+        sys.settrace(before)
+    return left <= 0
+
+
 def unescape(text):
     """The octets of a field of replies.txt."""
     def octet(match):
@@ -1020,6 +1045,22 @@ class Faults(unittest.TestCase):
                 self.assertFalse(session.is_open)
         finally:
             signal.signal(signal.SIGUSR1, before)
+
+    def test_signal_at_any_line(self):
+        """What a signal's handler raises in a call leaves a session that goes on, or has ended."""
+        def serve(stream):
+            with contextlib.suppress(OSError):
+                while stream.recv(100):
+                    stream.sendall(b"ok repair\n")
+
+        number, goes_on = 1, True
+        while goes_on:
+            with self.subTest(line=number), fake(serve) as (address, _), siploc.connect(address, 20) as session:
+                goes_on = is_interrupted(session.repair, [siploc.Session._exchange], number)
+                number += 1
+                if session.is_open:
+                    session.repair()
+        self.assertGreater(number, 10)
 
     def test_signal_of_a_closed_connection(self):
         """A program that a closed pipe ends, as others of a shell, is not ended by a closed connection."""

@@ -16,6 +16,7 @@ import unittest
 
 import siploc
 import siploc_embedded
+from test_siploc import is_interrupted
 
 
 class Library:
@@ -97,6 +98,21 @@ class Memory(unittest.TestCase):
         handler = session.close
         session.repair()
         self.assertEqual((session.is_open, library.closed), (False, 1))
+
+    def test_what_a_signal_s_handler_raises(self):
+        """At any line of a call it leaves a session that goes on, or has ended."""
+        number, goes_on = 1, True
+        while goes_on:
+            library = Library([], [b"ok repair\n"] * 2)
+            session = siploc_embedded.Session(library, "")
+            with self.subTest(line=number):
+                goes_on = is_interrupted(session.repair, [session._exchange.__func__, session._run.__func__], number)
+                number += 1
+                if session.is_open:
+                    session.repair()
+                session.close()
+                self.assertEqual(library.closed, 1)
+        self.assertGreater(number, 20)
 
     def test_a_session_that_is_dropped(self):
         library = Library([], [])
