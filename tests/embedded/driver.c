@@ -192,7 +192,7 @@ static int nulls(void) {
     memset(room, 7, sizeof room);
     if (siploc_embedded_run("", 0, "quit", 4, room, 7, &count) != SIPLOC_EMBEDDED_ROOM || count != 8 || room[0] != 7)
         stop("too little room");
-    if (siploc_embedded_run(NULL, 1, "", 0, room, 1, &count) != SIPLOC_EMBEDDED_NULL ||
+    if (siploc_embedded_run(NULL, 1, "", 0, room, 1, &count) != SIPLOC_EMBEDDED_NULL || count != 0 ||
         siploc_embedded_run("", 0, NULL, 1, room, 1, &count) != SIPLOC_EMBEDDED_NULL ||
         siploc_embedded_run("", 0, "", 0, NULL, 1, &count) != SIPLOC_EMBEDDED_NULL ||
         siploc_embedded_run("", 0, "", 0, room, 1, NULL) != SIPLOC_EMBEDDED_NULL)

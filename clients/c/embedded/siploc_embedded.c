@@ -33,7 +33,10 @@ static const uint8_t *at(const void *octets) {
 
 siploc_embedded_status siploc_embedded_run(const void *settings, size_t settings_len, const void *lines,
                                            size_t lines_len, void *replies, size_t room, size_t *count) {
-    if (!is_given(settings, settings_len) || !is_given(lines, lines_len) || !is_given(replies, room) || count == NULL)
+    if (count == NULL)
+        return SIPLOC_EMBEDDED_NULL;
+    *count = 0;
+    if (!is_given(settings, settings_len) || !is_given(lines, lines_len) || !is_given(replies, room))
         return SIPLOC_EMBEDDED_NULL;
     uint8_t *written = replies != NULL ? replies : &none;
     return (siploc_embedded_status)siploc_c_run(at(settings), settings_len, at(lines), lines_len, written, room, count);

@@ -93,9 +93,10 @@ siploc_embedded_status siploc_embedded_run(const void *settings, size_t settings
 
 /*
  * Serves a session on a stream socket, such as an end of a socketpair, at a book of its own, in the caller's thread,
- * until `quit` or the end of the input, and closes the socket: also where the settings are refused. A signal with a
- * handler, unless that has SA_RESTART, may end it too, with READ or WRITE: block such in that thread. To the other end
- * it is as a connection to `siploc serve` is: `siploc_new` of siploc.h takes that, for calls in place of lines.
+ * until `quit` or the end of the input, and closes the socket: also where the settings are refused. The socket has to
+ * wait: one with O_NONBLOCK ends it with READ or WRITE as soon as it would. So may a signal with a handler, unless that
+ * has SA_RESTART: block such in that thread. To the other end it is as a connection to `siploc serve` is: `siploc_new`
+ * of siploc.h takes that, for calls in place of lines.
  */
 siploc_embedded_status siploc_embedded_serve(int descriptor, const void *settings, size_t settings_len);
 
