@@ -63,6 +63,14 @@ def module_of(name: str) -> Any:
     return module
 
 
+def place_of_test() -> str:
+    """The file and the line where a test is now, which `part` runs; of a thread's own part those of its check."""
+    frames = [*traceback.walk_stack(sys._getframe(2))]
+    names = [it.f_code.co_name for it, _ in frames]
+    frame, line = frames[names.index("part") - 1] if "part" in names[1:] else frames[0]
+    return f"{os.path.relpath(frame.f_code.co_filename, HERE.parent.parent)}:{line}"
+
+
 class Count:
     """Checks that passed and failed. Each that failed is printed."""
 
@@ -73,7 +81,7 @@ class Count:
         self.passed += bool(is_so)
         self.failed += not is_so
         if not is_so:
-            print(f"NOT  {text}", flush=True)
+            print(f"NOT  {place_of_test()}: {text}", flush=True)
 
     def part(self, test: Callable[..., None], *words: object) -> None:
         """A test; one that breaks has failed."""

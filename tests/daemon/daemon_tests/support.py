@@ -14,8 +14,10 @@ import signal
 import socket
 import struct
 import subprocess
+import sys
 import threading
 import time
+import traceback
 from typing import Any, Callable, Iterator, Optional, Sequence
 
 TOP = pathlib.Path(__file__).resolve().parent.parent.parent.parent
@@ -39,6 +41,14 @@ def test(function: Callable[["Checks", pathlib.Path], None]) -> Callable[["Check
     return function
 
 
+def place_of_test() -> str:
+    """The file and the line where a test is now; of a thread's own part those of its check."""
+    frames = [it for it in traceback.walk_stack(sys._getframe(2)) if it[0].f_code.co_name != "equal"]
+    names = [it.f_code.co_name for it, _ in frames]
+    frame, line = frames[names.index("run_test") - 1] if "run_test" in names[1:] else frames[0]
+    return f"{os.path.relpath(frame.f_code.co_filename, TOP)}:{line}"
+
+
 class Checks:
     """The checks of a test."""
 
@@ -48,7 +58,7 @@ class Checks:
     def expect(self, is_so: object, text: object) -> None:
         self.passed += bool(is_so)
         if not is_so:
-            self.faults.append(str(text)[:1_000])
+            self.faults.append(f"{place_of_test()}: {text}"[:1_000])
 
     def equal(self, got: object, wanted: object, of: object) -> None:
         self.expect(got == wanted, f"{of}: {got!r}, and not {wanted!r}")
