@@ -134,3 +134,26 @@ def the_unit_lets_the_proxy_in(checks: Checks, folder: pathlib.Path) -> None:
     finally:
         process.kill()
         process.wait()
+
+
+@test
+def a_restore_is_the_daemons(checks: Checks, folder: pathlib.Path) -> None:
+    """What root has put back, also where root has started a daemon over it by hand, is the daemon's by the words of
+    docs/use/OPERATING.md."""
+    named = re.search(r"`chown siplocd: ([^`]*)`", (TOP / "docs/use/OPERATING.md").read_text())
+    if os.geteuid():
+        return
+    folder.chmod(0o711)
+    state = folder / "lib/state"
+    state.parent.mkdir()
+    with started(checks, folder, f'state = "{state}"') as daemon:
+        stopped(checks, daemon)
+    os.chown(state.parent, DAEMON, DAEMON)
+    for pattern in named[1].split(" ") if named else ():
+        for file in state.parent.glob(pattern.replace("FILE", "state")):
+            os.chown(file, DAEMON, DAEMON)
+    process = subprocess.Popen([PROGRAM, f'listen = ["127.0.0.1:0"]\nstate = "{state}"\nstdin = "stop"'], user=DAEMON,
+                               group=DAEMON, extra_groups=[], stdin=subprocess.PIPE, stdout=subprocess.PIPE,
+                               stderr=subprocess.PIPE, cwd="/")
+    out, errors = process.communicate(timeout=PATIENCE)
+    checks.expect(process.returncode == 0 and out.endswith(b"closed 0\n"), f"{process.returncode}, {errors!r}")
