@@ -106,6 +106,20 @@ def output() -> TextIO:
     return sys.stdout
 
 
+def write(path: pathlib.Path, text: str) -> None:
+    """Writes a file whole, or leaves it as it was, as on a disk that is full; octets that are no text are those that were
+    read as `surrogateescape`."""
+    path = path.resolve()
+    new = path.with_name(f".{path.name}.{os.getpid()}")
+    try:
+        new.write_bytes(text.encode(errors="surrogateescape"))
+        if path.exists():
+            shutil.copymode(path, new)
+        new.replace(path)
+    finally:
+        new.unlink(missing_ok=True)
+
+
 def print_done(text: str) -> None:
     """Prints what was done. Where that can't be printed the fault has it."""
     try:
