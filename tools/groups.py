@@ -46,8 +46,10 @@ def started(words: Sequence[str | os.PathLike[str]], **how: Any) -> Iterator[sub
     """Starts a command, whose group ends where the block is left early. What was ended with the program is no result."""
     with _turn:
         check()
-        process = subprocess.Popen(words, start_new_session=True, **how)
-        _running.append(process)
+        # (only the main thread sees a signal)
+        with usage.whole() if threading.current_thread() is threading.main_thread() else contextlib.nullcontext():
+            process = subprocess.Popen(words, start_new_session=True, **how)
+            _running.append(process)
     try:
         yield process
         check()

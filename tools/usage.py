@@ -10,6 +10,7 @@ it. Their continuations are not part of it.
 from __future__ import annotations
 
 import atexit
+import contextlib
 import errno
 import io
 import os
@@ -18,7 +19,7 @@ import re
 import shutil
 import signal
 import sys
-from typing import NoReturn, Optional, Sequence, TextIO
+from typing import Iterator, NoReturn, Optional, Sequence, TextIO
 
 TOP = pathlib.Path(__file__).resolve().parent.parent
 
@@ -38,19 +39,34 @@ class Ended(BaseException):
     """A signal that ends the program."""
 
 
+# What is not to be left in its middle, where a signal is only seen after it.
+_whole: list[bool] = []
+
+
+@contextlib.contextmanager
+def whole() -> Iterator[None]:
+    """A block that no signal leaves early, as while a process is started: `Ended` is raised within a second after it."""
+    _whole.append(True)
+    try:
+        yield
+    finally:
+        _whole.pop()
+
+
 def end_at_signals() -> None:
     """From now on SIGINT and SIGTERM raise `Ended` in the main thread; a second one ends the program at once."""
     ours = [it for it in (signal.SIGINT, signal.SIGTERM) if signal.getsignal(it) != signal.SIG_IGN]
 
-    def end(number: int, _: object) -> NoReturn:
+    def end(number: int, _: object) -> None:
         for it in ours:
             signal.signal(it, signal.SIG_DFL)
-        raise Ended(f"ended by {signal.Signals(number).name}")
+        lost.append(Ended(f"ended by {signal.Signals(number).name}"))
+        again()
 
     lost: list[object] = []
 
     def again(*_: object) -> None:
-        if lost:
+        if lost and not _whole:
             raise Ended(lost.pop())
 
     def ignored(fault: sys.UnraisableHookArgs) -> None:
