@@ -174,14 +174,14 @@ impl Daemon {
         }
         let moved = service.advance(rt, &mut mover, now);
         drop(tally);
-        let _ = self.end_move(rt, &mut mover, moved);
+        self.end_move(rt, &mut mover, moved);
     }
 
     /// Moves the book's time to that of the host, if it is the host's. The move is among the changes, unless
-    /// these can't be written. A move that is refused is made later.
-    pub(crate) fn set_clock<R: Wait + Clock>(&self, rt: &R) -> Result<(), ServiceFault> {
+    /// these can't be written.
+    pub(crate) fn set_clock<R: Wait + Clock>(&self, rt: &R) {
         let Some(time) = &self.time else {
-            return Ok(());
+            return;
         };
         let now = time.now(rt);
         let mut mover = self.mover.lock(rt);
@@ -191,27 +191,16 @@ impl Daemon {
             } else {
                 self.source.advance(rt, &mut mover, now, &AtomicU64::new(0))
             };
-            self.end_move(rt, &mut mover, moved)?;
+            self.end_move(rt, &mut mover, moved);
         }
-        Ok(())
     }
 
     // Counts a move that was made, and hands its receipt over.
-    fn end_move<R: Wait>(
-        &self,
-        rt: &R,
-        mover: &mut Pass,
-        moved: Result<u64, ServiceFault>,
-    ) -> Result<(), ServiceFault> {
-        let ended = match moved {
-            Ok(number) => {
-                self.count_event(rt, number, board_octets(), 0);
-                Ok(())
-            }
-            Err(fault) => Err(fault),
-        };
+    fn end_move<R: Wait>(&self, rt: &R, mover: &mut Pass, moved: Result<u64, ServiceFault>) {
+        if let Ok(number) = moved {
+            self.count_event(rt, number, board_octets(), 0);
+        }
         let _ = self.pages.hand_over(rt, mover);
-        ended
     }
 
     /// Whether the time is the host's.

@@ -12,12 +12,10 @@ import re
 import struct
 import subprocess
 import tempfile
-import time
 from typing import Iterator, NamedTuple, Optional
 
-from commits import bodies_of
 from daemon_tests.faults import AT_ONCE, FEW, SAID
-from daemon_tests.support import PROGRAM, TOP, Checks, Client, Daemon, started, test, until
+from daemon_tests.support import PROGRAM, TOP, Checks, Client, Daemon, test, until
 
 # The daemon's way at whose allocations they are counted.
 WAYS = "start", "use", "stop"
@@ -237,29 +235,3 @@ def keeps_what_was_replied_to_whichever_allocation_fails(checks: Checks, _: path
         met += use.is_met
         checks.expect(not use.wrong, f"{refusal}: {use.wrong}")
     checks.expect(met >= len(found) * 3 // 4, f"only {met} of {len(found)} were met")
-
-
-@test
-def a_hold_begins_at_the_present_or_is_refused(checks: Checks, folder: pathlib.Path) -> None:
-    """From an earlier time it would be over too early, or at once."""
-    if not are_counted():
-        checks.expect(True, "an allocator of its own")
-        return
-    replies, count, is_met = [], 0, True
-    while is_met and count < 200:
-        count += 1
-        inner = folder / f"{count}"
-        inner.mkdir()
-        allocations, log = Allocations(inner), inner / "state.log"
-        with started(checks, inner, f'state = "{inner}/state"', listen=[f"unix:{inner}/lines"],
-                     environment=allocations.environment) as daemon, Client(daemon.address) as client:
-            checks.equal(client.ask("hold udp 192.0.2.1 1 0"), ["ok hold"], "a hold before")
-            before = len(bodies_of(log.read_bytes()))
-            time.sleep(0.01)
-            with allocations.refused(count):
-                replies.append(client.ask("hold udp 192.0.2.2 1 600000"))
-            is_met, said = allocations.left == 0, b"".join(bodies_of(log.read_bytes())[before:])
-        if replies[-1] == ["ok hold"]:
-            checks.expect(re.search(rb"^clock \d+\nhold udp 192.0.2.2 ", said, re.M), f"{count}: {said!r}")
-    checks.equal(replies[-1], ["ok hold"], f"without a fault, {count}")
-    checks.expect(replies.count(["err Memory"]) > 4, f"{replies}")

@@ -123,13 +123,10 @@ impl<'a, R: Files<File = File> + Wait + Clock> SessionDesk<'a, R> {
     }
 
     // Moves the book's time to that of the host, if it is the host's.
-    fn set_clock(&self) -> Result<(), DeskFault> {
+    fn set_clock(&self) {
         if self.claims.is_none() {
-            if let Err(fault) = self.daemon.set_clock(self.rt) {
-                return Err(DeskFault::Service(fault));
-            }
+            self.daemon.set_clock(self.rt);
         }
-        Ok(())
     }
 
     /// Ends the session: hands over the receipts that the pass has. Where an allocation fails they are
@@ -192,8 +189,7 @@ impl<'a, R: Files<File = File> + Wait + Clock> Desk for SessionDesk<'a, R> {
     fn hold(&mut self, endpoint: &Endpoint, ms: u64) -> Result<u64, DeskFault> {
         self.check_kept()?;
         let (rt, daemon) = (self.rt, self.daemon);
-        // (from an earlier time a hold would be over too early, or at once)
-        self.set_clock()?;
+        self.set_clock();
         match daemon
             .source
             .hold(rt, &mut self.pass, endpoint, ms, self.place)
@@ -210,7 +206,7 @@ impl<'a, R: Files<File = File> + Wait + Clock> Desk for SessionDesk<'a, R> {
         self.check_rights()?;
         self.check_kept()?;
         let (rt, daemon) = (self.rt, self.daemon);
-        let _ = self.set_clock();
+        self.set_clock();
         match daemon
             .source
             .release(rt, &mut self.pass, endpoint, self.place)
@@ -240,7 +236,7 @@ impl<'a, R: Files<File = File> + Wait + Clock> Desk for SessionDesk<'a, R> {
     }
 
     fn now(&self) -> u64 {
-        let _ = self.set_clock();
+        self.set_clock();
         self.daemon.source.service.now(self.rt)
     }
 
